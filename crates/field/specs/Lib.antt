@@ -1,0 +1,3 @@
+pub mod Arith
+pub mod Bytes
+pub mod Residues

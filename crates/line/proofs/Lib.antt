@@ -1,0 +1,9 @@
+pub mod Checks
+pub mod HexDigits
+pub mod KioskExact
+pub mod KioskLaws
+pub mod KioskReadsBack
+pub mod Numbers
+pub mod Standing
+pub mod StepLaws
+pub mod Written

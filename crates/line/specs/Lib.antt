@@ -1,0 +1,4 @@
+pub mod Digits
+pub mod Faults
+pub mod KioskLine
+pub mod Steps

@@ -1,0 +1,30 @@
+-- Which field a line is read over: that of its mark.
+use mathlib.Core.Bool.{Bool, true, false, cond}
+use mathlib.Core.List.{List}
+use Prim.Native.Nat.{ℕ}
+use Rattle.std.specs.declared.option.Option.{Option}
+use Rattle.std.specs.declared.option.Option.the-variants.{Some, None}
+use Rattle.field.specs.Arith.{Arith}
+use Rattle.field.specs.Bytes.{byte-arith}
+use Rattle.field.specs.Residues.{residue-arith}
+use Rattle.line.specs.declared.refusal.Cause.{Cause}
+use Rattle.line.specs.declared.refusal.Cause.the-variants.{WrongLetter, NoTab, NoHexDigit, NoLineFeed, OutOfRange, OtherMark, BytesAfter}
+use Rattle.line.specs.declared.refusal.LineFault.{LineFault}
+use Rattle.line.specs.KioskLine.{kiosk-fault}
+
+abbrev pub names-another : Cause → Bool
+names-another WrongLetter = false
+names-another NoTab = false
+names-another NoHexDigit = false
+names-another NoLineFeed = false
+names-another OutOfRange = false
+names-another OtherMark = true
+names-another BytesAfter = false
+
+-- the reader over this field finds another field's mark
+abbrev pub of-another-field : Arith → List ℕ → Bool
+of-another-field A text = elim (kiosk-fault 1 (A .mark) (A .order) text) [ None ↦ false | Some fault ↦ names-another (fault .cause) ]
+
+-- The fields are tried in turn, and the one that finds another's mark leads to the next. The last stands where no field has that mark.
+abbrev pub field-of : List ℕ → Arith
+field-of text = cond (of-another-field byte-arith text) residue-arith byte-arith
