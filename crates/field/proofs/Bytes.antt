@@ -29,7 +29,7 @@ carryless-left zero b x y = refl
 carryless-left (suc n) b x y =
     ap (λ m. bitXor m (bit n b * (bitXor x y * 2 ^ n))) (carryless-left n b x y)
     ∙ ap (bitXor (bitXor (carryless n x b) (carryless n y b)))
-      (ap (λ m. bit n b * m) (shift-additive n x y) ∙ bit-times (bit n b) (bit-below n b) (x * 2 ^ n) (y * 2 ^ n))
+    (ap (λ m. bit n b * m) (shift-additive n x y) ∙ bit-times (bit n b) (bit-below n b) (x * 2 ^ n) (y * 2 ^ n))
     ∙ xor-swap (carryless n x b) (carryless n y b) (bit n b * (x * 2 ^ n)) (bit n b * (y * 2 ^ n))
 
 carryless-right : (n a : ℕ) → Additive (λ b. carryless n a b)
@@ -85,7 +85,7 @@ product-comm : (a b : ℕ) → a < 256 → b < 256 → byte-product a b ≡ byte
 product-comm a b ha hb =
     agree (λ x. byte-product x b) (byte-product b) (product-left b) (product-right b) 8
     (λ i hi. agree (byte-product (2 ^ i)) (λ y. byte-product y (2 ^ i)) (product-right (2 ^ i)) (product-left (2 ^ i)) 8
-      (λ j hj. eqb-true (byte-product (2 ^ i) (2 ^ j)) (byte-product (2 ^ j) (2 ^ i)) (pairs-at (λ x y. eqb (byte-product x y) (byte-product y x)) comm-test i j hi hj)) b hb)
+    (λ j hj. eqb-true (byte-product (2 ^ i) (2 ^ j)) (byte-product (2 ^ j) (2 ^ i)) (pairs-at (λ x y. eqb (byte-product x y) (byte-product y x)) comm-test i j hi hj)) b hb)
     a ha
 
 -- additive maps after one another
@@ -101,16 +101,16 @@ product-assoc a b c ha hb hc =
     agree (λ x. byte-product (byte-product x b) c) (λ x. byte-product x (byte-product b c))
     (composed (λ x. byte-product x c) (λ x. byte-product x b) (product-left c) (product-left b)) (product-left (byte-product b c)) 8
     (λ i hi. agree (λ y. byte-product (byte-product (2 ^ i) y) c) (λ y. byte-product (2 ^ i) (byte-product y c))
-      (composed (λ y. byte-product y c) (byte-product (2 ^ i)) (product-left c) (product-right (2 ^ i)))
-      (composed (byte-product (2 ^ i)) (λ y. byte-product y c) (product-right (2 ^ i)) (product-left c)) 8
-      (λ j hj. agree (byte-product (byte-product (2 ^ i) (2 ^ j))) (λ z. byte-product (2 ^ i) (byte-product (2 ^ j) z))
-        (product-right (byte-product (2 ^ i) (2 ^ j)))
-        (composed (byte-product (2 ^ i)) (byte-product (2 ^ j)) (product-right (2 ^ i)) (product-right (2 ^ j))) 8
-        (λ k hk. eqb-true (byte-product (byte-product (2 ^ i) (2 ^ j)) (2 ^ k)) (byte-product (2 ^ i) (byte-product (2 ^ j) (2 ^ k)))
-          (pairs-at (λ x y. eqb (byte-product (byte-product x y) (2 ^ k)) (byte-product x (byte-product y (2 ^ k))))
-            (at 8 (λ n. pairs (λ x y. eqb (byte-product (byte-product x y) (2 ^ n)) (byte-product x (byte-product y (2 ^ n))))) assoc-test k hk) i j hi hj))
-        c hc)
-      b hb)
+    (composed (λ y. byte-product y c) (byte-product (2 ^ i)) (product-left c) (product-right (2 ^ i)))
+    (composed (byte-product (2 ^ i)) (λ y. byte-product y c) (product-right (2 ^ i)) (product-left c)) 8
+    (λ j hj. agree (byte-product (byte-product (2 ^ i) (2 ^ j))) (λ z. byte-product (2 ^ i) (byte-product (2 ^ j) z))
+    (product-right (byte-product (2 ^ i) (2 ^ j)))
+    (composed (byte-product (2 ^ i)) (byte-product (2 ^ j)) (product-right (2 ^ i)) (product-right (2 ^ j))) 8
+    (λ k hk. eqb-true (byte-product (byte-product (2 ^ i) (2 ^ j)) (2 ^ k)) (byte-product (2 ^ i) (byte-product (2 ^ j) (2 ^ k)))
+    (pairs-at (λ x y. eqb (byte-product (byte-product x y) (2 ^ k)) (byte-product x (byte-product y (2 ^ k))))
+    (at 8 (λ n. pairs (λ x y. eqb (byte-product (byte-product x y) (2 ^ n)) (byte-product x (byte-product y (2 ^ n))))) assoc-test k hk) i j hi hj))
+    c hc)
+    b hb)
     a ha
 
 one-test : all-below 8 (λ i. eqb (byte-product 1 (2 ^ i)) (2 ^ i)) ≡ true
@@ -203,5 +203,5 @@ unfolding shift-add
 step a b ha hb =
     agree (λ x. byte-product x b) (λ x. shift-add x b) (product-left b) (shift-add-left b) 8
     (λ i hi. agree (byte-product (2 ^ i)) (shift-add (2 ^ i)) (product-right (2 ^ i)) (shift-add-right (2 ^ i)) 8
-      (λ j hj. eqb-true (byte-product (2 ^ i) (2 ^ j)) (shift-add (2 ^ i) (2 ^ j)) (pairs-at (λ x y. eqb (byte-product x y) (shift-add x y)) step-test i j hi hj)) b hb)
+    (λ j hj. eqb-true (byte-product (2 ^ i) (2 ^ j)) (shift-add (2 ^ i) (2 ^ j)) (pairs-at (λ x y. eqb (byte-product x y) (shift-add x y)) step-test i j hi hj)) b hb)
     a ha

@@ -20,9 +20,9 @@ by-bits P none both (suc k) bits x h =
     ⊎-elim
     (λ low. by-bits P none both k (λ i hi. bits i (omega arith)) x low)
     (λ high.
-      let rest : x - 2 ^ k < 2 ^ k = omega (arith, pow-suc 2 k) in
-      let whole : bitXor (2 ^ k) (x - 2 ^ k) ≡ x = ap (λ n. bitXor n (x - 2 ^ k)) (sym (one-mul (2 ^ k))) ∙ xor-shifted 1 k (x - 2 ^ k) rest ∙ omega arith in
-      rw (← whole) (both (2 ^ k) (x - 2 ^ k) (bits k (omega arith)) (by-bits P none both k (λ i hi. bits i (omega arith)) (x - 2 ^ k) rest)))
+    let rest : x - 2 ^ k < 2 ^ k = omega (arith, pow-suc 2 k) in
+    let whole : bitXor (2 ^ k) (x - 2 ^ k) ≡ x = ap (λ n. bitXor n (x - 2 ^ k)) (sym (one-mul (2 ^ k))) ∙ xor-shifted 1 k (x - 2 ^ k) rest ∙ omega arith in
+    rw (← whole) (both (2 ^ k) (x - 2 ^ k) (bits k (omega arith)) (by-bits P none both k (λ i hi. bits i (omega arith)) (x - 2 ^ k) rest)))
     (cases-lt x (2 ^ k))
 
 pub additive-zero : (f : ℕ → ℕ) → Additive f → f 0 ≡ 0

@@ -28,4 +28,5 @@ byte-arith = record {
   sum = bitXor;
   negative = λ x. x;
   product = byte-product;
-  inverse = λ x. cond (eqb x 0) None (Some (power byte-product x 254)) }
+  inverse = λ x. cond (eqb x 0) None (Some (power byte-product x 254));
+}

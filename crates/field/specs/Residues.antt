@@ -16,4 +16,5 @@ residue-arith = record {
   sum = λ x y. (x + y) % 257;
   negative = λ x. (257 - x) % 257;
   product = residue-product;
-  inverse = λ x. cond (eqb x 0) None (Some (power residue-product x 255)) }
+  inverse = λ x. cond (eqb x 0) None (Some (power residue-product x 255));
+}

@@ -1,4 +1,4 @@
 // Finite fields behind one interface that promises its laws.
-pub mod interface;
 pub mod byte;
+pub mod interface;
 pub mod residue;

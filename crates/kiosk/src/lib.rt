@@ -26,7 +26,11 @@ use polynomial::horner;
 fn point<F: Field>(number: KioskNumber) -> Option<F>
     ensures { λ r. ⌜ mapped (F·Field .code) r ≡ cond (eqb (number .0) 0 || leb (F·Field .arith .order) (number .0)) None (Some (number .0)) ⌝ }
 {
-    if number.0 == 0 { None } else { F::from_code(number.0) }
+    if number.0 == 0 {
+        None
+    } else {
+        F::from_code(number.0)
+    }
 }
 
 // The element of the code with this index.

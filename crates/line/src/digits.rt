@@ -68,6 +68,15 @@ pub(crate) fn write_number(number: u32, buffer: &mut [u8])
     }
 }
 
+// The eight digits of a number.
+pub fn hex(number: u32) -> [u8; 8]
+    ensures { λ r. ⌜ r ≡ eight number ⌝ }
+{
+    let mut digits = [0u8; 8];
+    write_number(number, &mut digits);
+    digits
+}
+
 // Writes a tab and a number from a place of a buffer on. That the number fits its type is told for a caller that has it
 // behind a reference.
 pub(crate) fn write_field(place: usize, number: u32, buffer: &mut [u8])

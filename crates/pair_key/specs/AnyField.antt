@@ -11,6 +11,8 @@ use Rattle.line.specs.declared.refusal.Cause.{Cause}
 use Rattle.line.specs.declared.refusal.Cause.the-variants.{WrongLetter, NoTab, NoHexDigit, NoLineFeed, OutOfRange, OtherMark, BytesAfter}
 use Rattle.line.specs.declared.refusal.LineFault.{LineFault}
 use Rattle.line.specs.KioskLine.{kiosk-fault}
+use Rattle.pair_key.specs.declared.any_field.FieldName.{FieldName}
+use Rattle.pair_key.specs.declared.any_field.FieldName.the-variants.{Bytes, Residues}
 
 abbrev pub names-another : Cause → Bool
 names-another WrongLetter = false
@@ -28,3 +30,7 @@ of-another-field A text = elim (kiosk-fault 1 (A .mark) (A .order) text) [ None 
 -- The fields are tried in turn, and the one that finds another's mark leads to the next. The last stands where no field has that mark.
 abbrev pub field-of : List ℕ → Arith
 field-of text = cond (of-another-field byte-arith text) residue-arith byte-arith
+
+abbrev pub arith-of : FieldName → Arith
+arith-of Bytes = byte-arith
+arith-of Residues = residue-arith

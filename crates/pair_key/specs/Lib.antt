@@ -1,2 +1,3 @@
 pub mod Arguments
 pub mod AnyField
+pub mod Report

@@ -1,37 +1,56 @@
-// Derivation over whichever field the line's mark names.
+// The report over whichever field the line's mark names.
 ghost use mathlib.Core.Path.{_≡_};
-ghost use Rattle.kiosk.specs.Derivation.{answer, left-in};
-ghost use Rattle.pair_key.specs.AnyField.{field-of};
+ghost use Rattle.pair_key.specs.AnyField.{of-another-field, field-of, arith-of};
+ghost use Rattle.pair_key.specs.Report.{Reported};
+use crate::report::Failure;
+use crate::report::report;
 use field::byte::Byte;
 use field::byte::arithmetic::ByteField;
+use field::interface::Field;
 use field::residue::Residue;
 use field::residue::arithmetic::ResidueField;
-use kiosk::derive;
+use line::kiosk_line::KioskLine;
 use line::number::KioskNumber;
 use line::refusal::Cause;
-use line::refusal::Refusal;
+use std::alloc::Global;
 
-fn names_another_field(answer: &Result<usize, Refusal>) -> bool
-    ensures { λ r. ⌜ r ≡ refused-for-mark (now (answer .entry)) ⌝ }
+// The fields that there are.
+#[derive(Clone, Copy)]
+enum FieldName {
+    Bytes,
+    Residues,
+}
+
+// Whether a reader over this field finds another field's mark.
+fn has_another_mark<F: Field>(text: &[u8]) -> bool
+    ensures { λ r. ⌜ r ≡ of-another-field (F·Field .arith) (now (text .entry)) ⌝ }
 {
-    match answer {
-        Err(Refusal::OutOfForm(fault)) => match fault.cause {
+    match KioskLine::read(1, F::mark(), F::order(), text) {
+        Ok(_) => false,
+        Err(fault) => match fault.cause {
             Cause::OtherMark => true,
             _ => false,
         },
-        _ => false,
     }
 }
 
-// As `kiosk::derive`, over the field that the line's mark names.
-pub fn derive_any(text: &[u8], other: KioskNumber, key: &mut [u32]) -> Result<usize, Refusal>
-    ensures answer { λ r. ⌜ r ≡ answer (field-of (now (text .entry))) (now (text .entry)) (other .0) (now (key .entry)) ⌝ }
-    ensures key { λ _. ⌜ now (key .exit) ≡ left-in (field-of (now (text .entry))) (now (text .entry)) (other .0) (now (key .entry)) ⌝ }
+// The field that the line's mark names.
+fn name_field(text: &[u8]) -> FieldName
+    ensures { λ r. ⌜ arith-of r ≡ field-of (now (text .entry)) ⌝ }
 {
-    let answer = derive::<Byte>(text, other, key);
-    if names_another_field(&answer) {
-        derive::<Residue>(text, other, key)
+    if has_another_mark::<Byte>(text) {
+        FieldName::Residues
     } else {
-        answer
+        FieldName::Bytes
+    }
+}
+
+// The lines of the keys that the kiosk of this line shares with the others.
+pub fn report_any(heap: Global, text: &[u8], others: &[KioskNumber]) -> Result<Vec<u8>, Failure>
+    ensures { λ r. ⌜ Reported (field-of (now (text .entry))) (now (text .entry)) (now (others .entry)) r ⌝ }
+{
+    match name_field(text) {
+        FieldName::Bytes => report::<Byte>(heap, text, others),
+        FieldName::Residues => report::<Residue>(heap, text, others),
     }
 }

@@ -52,7 +52,7 @@ module _ (A : Arith) (L : Laws A) where
   at-place cs below j = (getD cs j 0, code-below cs below j)
 
   pub evaluation-cons : (c : ℕ) (cs : List ℕ) (x : ℕ) → c < A .order → All (λ d. d < A .order) cs → x < A .order →
-    evaluation A (c ∷ cs) x ≡ A .sum (A .product (evaluation A cs x) x) c
+      evaluation A (c ∷ cs) x ≡ A .sum (A .product (evaluation A cs x) x) c
   unfolding evaluation at-place
   evaluation-cons c cs x c-below cs-below x-below =
       let point : Code A = (x, x-below) in
@@ -74,14 +74,14 @@ sum-over-same A (suc n) f g same =
 
 -- a code of a pair key is the value, at the other kiosk's number, of the polynomial that a lane of the share has for its coefficients
 pub pair-key-lane : (A : Arith) (t m : ℕ) (share : List ℕ) (v lane : ℕ) → lane < m → lane * (t + 1) + (t + 1) ≤ length share →
-  getD (pair-key A t m share v) lane 0 ≡ evaluation A (take (t + 1) (drop (lane * (t + 1)) share)) v
+    getD (pair-key A t m share v) lane 0 ≡ evaluation A (take (t + 1) (drop (lane * (t + 1)) share)) v
 unfolding pair-key evaluation
 pair-key-lane A t m share v lane inside enough =
     let codes = take (t + 1) (drop (lane * (t + 1)) share) in
     let long : length codes ≡ t + 1 = simp (length-take, length-drop) (omega arith) in
     getD-map-counting (λ l. sum-over A (t + 1) (λ j. A .product (getD share (l * (t + 1) + j) 0) (power (A .product) v j))) 0 m lane lane 0 inside (omega arith)
     ∙ sum-over-same A (t + 1) (λ j. A .product (getD share (lane * (t + 1) + j) 0) (power (A .product) v j)) (λ j. A .product (getD codes j 0) (power (A .product) v j))
-      (λ j h. ap (λ c. A .product c (power (A .product) v j)) (sym (getD-take (t + 1) (drop (lane * (t + 1)) share) j 0 h ∙ getD-drop (lane * (t + 1)) share j 0)))
+    (λ j h. ap (λ c. A .product c (power (A .product) v j)) (sym (getD-take (t + 1) (drop (lane * (t + 1)) share) j 0 h ∙ getD-drop (lane * (t + 1)) share j 0)))
     ∙ ap (λ n. sum-over A n (λ j. A .product (getD codes j 0) (power (A .product) v j))) (sym long)
 
 pub length-pair-key : (A : Arith) (t m : ℕ) (share : List ℕ) (v : ℕ) → length (pair-key A t m share v) ≡ m

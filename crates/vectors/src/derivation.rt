@@ -1,4 +1,5 @@
 // Derivation on lines, good and damaged.
+use super::lines::KIOSK_2;
 use field::byte::Byte;
 use field::byte::arithmetic::ByteField;
 use field::residue::Residue;
@@ -12,9 +13,9 @@ use line::refusal::Refusal;
 use line::refusal::RefusalDebug;
 use line::refusal::RefusalPartialEq;
 use std::test::*;
-use super::lines::KIOSK_2;
 
-const KIOSK_3: [u8; 64] = *b"k\t00000002\t00000009\t00000001\t00000001\t00000003\t0000001a00000028\n";
+const KIOSK_3: [u8; 64] =
+    *b"k\t00000002\t00000009\t00000001\t00000001\t00000003\t0000001a00000028\n";
 
 #[test]
 fn both_kiosks_derive_one_key() -> Result<(), Fail> {
@@ -41,7 +42,10 @@ fn refused(number: u32, room: usize) -> Result<Refusal, Fail> {
 #[test]
 fn takes_the_largest_number_and_no_larger() -> Result<(), Fail> {
     let mut key = [7u32; 1];
-    check_eq(derive::<Residue>(&KIOSK_2, KioskNumber(256), &mut key), Ok(1))?;
+    check_eq(
+        derive::<Residue>(&KIOSK_2, KioskNumber(256), &mut key),
+        Ok(1),
+    )?;
     check(key == [247])?;
     check_eq(refused(257, 1)?, Refusal::NoSuchKiosk)?;
     check_eq(refused(257, 1)?.number(), 6)
@@ -72,7 +76,10 @@ fn a_line_of_another_field() -> Result<(), Fail> {
         place: 2,
         cause: Cause::OtherMark,
     };
-    check_eq(derive::<Byte>(&KIOSK_2, KioskNumber(3), &mut key), Err(Refusal::OutOfForm(fault)))?;
+    check_eq(
+        derive::<Byte>(&KIOSK_2, KioskNumber(3), &mut key),
+        Err(Refusal::OutOfForm(fault)),
+    )?;
     check(key == [7])
 }
 
@@ -113,6 +120,9 @@ fn a_line_of_full_size() -> Result<(), Fail> {
     check_eq(derive::<Byte>(&text, KioskNumber(1), &mut key), Ok(16))?;
     check(key == [0, 1, 2, 3, 4, 5, 6, 7, 8, 9, 10, 11, 12, 13, 14, 15, 99])?;
     let mut short = [99u32; 15];
-    check_eq(derive::<Byte>(&text, KioskNumber(1), &mut short), Err(Refusal::BufferTooShort))?;
+    check_eq(
+        derive::<Byte>(&text, KioskNumber(1), &mut short),
+        Err(Refusal::BufferTooShort),
+    )?;
     check(short == [99u32; 15])
 }

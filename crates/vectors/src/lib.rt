@@ -10,10 +10,16 @@ mod fields;
 #[cfg(test)]
 mod lines;
 
+fn count() -> usize
+    ensures { λ r. ⌜ r ≡ length examples ⌝ }
+{
+    5
+}
+
 // The number of examples in the table, every one of which holds.
 pub fn worked_examples() -> usize
     ensures hold { λ _. ⌜ Examples-hold ⌝ }
     ensures count { λ r. ⌜ r ≡ length examples ⌝ }
 {
-    5
+    count()
 }

@@ -19,7 +19,8 @@ use line::refusal::RefusalPartialEq;
 use std::test::*;
 
 // The line of kiosk 2 of tour 9 over the residues, with t = 1, m = 1 and the share 19 29.
-pub const KIOSK_2: [u8; 64] = *b"k\t00000002\t00000009\t00000001\t00000001\t00000002\t000000130000001d\n";
+pub const KIOSK_2: [u8; 64] =
+    *b"k\t00000002\t00000009\t00000001\t00000001\t00000002\t000000130000001d\n";
 
 pub fn kiosk_2() -> KioskHead {
     KioskHead {
@@ -50,7 +51,10 @@ fn is_written_into_just_enough_room() -> Result<(), Fail> {
     check_eq(kiosk_2().write(&[19, 29], &mut buffer), Ok(64))?;
     check(buffer == KIOSK_2)?;
     let mut short = [7u8; 63];
-    check_eq(kiosk_2().write(&[19, 29], &mut short), Err(Refusal::BufferTooShort))?;
+    check_eq(
+        kiosk_2().write(&[19, 29], &mut short),
+        Err(Refusal::BufferTooShort),
+    )?;
     check(short == [7u8; 63])
 }
 

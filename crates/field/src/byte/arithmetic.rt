@@ -8,6 +8,7 @@ use super::Byte;
 use crate::interface::Field;
 
 const ORDER: u32 = 256;
+
 const MARK: u32 = 1;
 
 // x^8 is x^4 + x^3 + x + 1 modulo the field's polynomial.
@@ -63,7 +64,9 @@ pub impl Field for Byte as ByteField {
     }
 
     fn sum(self, other: Byte) -> Byte {
-        Byte { value: self.value ^ other.value }
+        Byte {
+            value: self.value ^ other.value,
+        }
     }
 
     fn negative(self) -> Byte {
@@ -71,12 +74,18 @@ pub impl Field for Byte as ByteField {
     }
 
     fn product(self, other: Byte) -> Byte {
-        Byte { value: times(self.value, other.value) }
+        Byte {
+            value: times(self.value, other.value),
+        }
     }
 
     fn inverse(self) -> Option<Byte> {
         let power = power_254(self.value);
-        if self.value == 0 { None } else { Some(Byte { value: power }) }
+        if self.value == 0 {
+            None
+        } else {
+            Some(Byte { value: power })
+        }
     }
 
     fn to_code(self) -> u32 {
@@ -84,7 +93,13 @@ pub impl Field for Byte as ByteField {
     }
 
     fn from_code(number: u32) -> Option<Byte> {
-        if number < ORDER { Some(Byte { value: number as u8 }) } else { None }
+        if number < ORDER {
+            Some(Byte {
+                value: number as u8,
+            })
+        } else {
+            None
+        }
     }
 
     fn order() -> u64 {

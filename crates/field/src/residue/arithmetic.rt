@@ -7,13 +7,16 @@ use super::Residue;
 use crate::interface::Field;
 
 const ORDER: u32 = 257;
+
 const MARK: u32 = 2;
 
 // The residue of a number.
 fn residue(number: u32) -> Residue
     ensures { λ r. ⌜ r .value ≡ number % 257 ⌝ }
 {
-    Residue { value: (number % ORDER) as u16 }
+    Residue {
+        value: (number % ORDER) as u16,
+    }
 }
 
 fn times(x: Residue, y: Residue) -> Residue
@@ -72,7 +75,13 @@ pub impl Field for Residue as ResidueField {
     }
 
     fn from_code(number: u32) -> Option<Residue> {
-        if number < ORDER { Some(Residue { value: number as u16 }) } else { None }
+        if number < ORDER {
+            Some(Residue {
+                value: number as u16,
+            })
+        } else {
+            None
+        }
     }
 
     fn order() -> u64 {

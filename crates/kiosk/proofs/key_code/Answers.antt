@@ -24,7 +24,7 @@ loop-j-holds g c =
 
 -- the coefficients from one place further down
 one-more : (codes : List ℕ) (first count j x : ℕ) → first + count ≤ length codes → 0 < j → j ≤ count → x ≡ getD codes (first + (j - 1)) 0 →
-  drop (j - 1) (take count (drop first codes)) ≡ x ∷ drop j (take count (drop first codes))
+    drop (j - 1) (take count (drop first codes)) ≡ x ∷ drop j (take count (drop first codes))
 one-more codes first count j x within some most e =
     let lane = take count (drop first codes) in
     let long : j - 1 < length lane = simp (length-take, length-drop) (omega arith) in
@@ -39,7 +39,7 @@ loop-j-again g c =
     let codes = codes-in (c .args .codes .text .now) in
     let lane = take (c .args .count) (drop (c .args .first) codes) in
     let below = all-drop (λ n. n < field .arith .order) (c .loop-j .j) lane
-      (all-take (λ n. n < field .arith .order) (c .args .count) (drop (c .args .first) codes) (all-drop (λ n. n < field .arith .order) (c .args .first) codes (c .pre .below))) in
+    (all-take (λ n. n < field .arith .order) (c .args .count) (drop (c .args .first) codes) (all-drop (λ n. n < field .arith .order) (c .args .first) codes (c .pre .below))) in
     c .horner-value .ensures .evaluates (drop (c .loop-j .j) lane) below (c .loop-j .inv)
     ∙ ap (λ cs. evaluation (field .arith) cs (field .code (c .args .point)))
-      (sym (one-more codes (c .args .first) (c .args .count) (c .loop-j .j) (field .code (c .element .result)) (c .pre .within) (c .loop-j-test .taken) (c .loop-j .kept .j) (c .element .ensures)))
+    (sym (one-more codes (c .args .first) (c .args .count) (c .loop-j .j) (field .code (c .element .result)) (c .pre .within) (c .loop-j-test .taken) (c .loop-j .kept .j) (c .element .ensures)))

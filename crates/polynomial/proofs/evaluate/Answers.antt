@@ -25,7 +25,7 @@ loop-i-again g c =
     let x = c .index-coefficients-i .result in
     let next : i - 1 + 1 ≡ i = omega arith in
     let here : drop (i - 1) xs ≡ x ∷ drop i xs =
-      drop-more xs (i - 1) x (omega arith) ∙ ap (λ y. y ∷ drop (i - 1 + 1) xs) (sym (c .index-coefficients-i .is)) ∙ ap (λ k. x ∷ drop k xs) next in
+    drop-more xs (i - 1) x (omega arith) ∙ ap (λ y. y ∷ drop (i - 1 + 1) xs) (sym (c .index-coefficients-i .is)) ∙ ap (λ k. x ∷ drop k xs) next in
     c .horner-value .ensures .evaluates (map (field .code) (drop i xs)) (codes-below (c .laws .ensures .coding) (drop i xs)) (c .loop-i .inv)
     ∙ ap (λ ys. evaluation (field .arith) (map (field .code) ys) (field .code (c .args .point))) (sym here)
 

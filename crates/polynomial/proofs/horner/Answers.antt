@@ -10,7 +10,7 @@ returns g c =
     record {
       value = c .times-plus .ensures;
       evaluates = λ higher higher-below so-far.
-        c .times-plus .ensures
-        ∙ ap (λ v. A .sum (A .product v (code (c .args .point))) (code (c .args .coefficient))) so-far
-        ∙ sym (evaluation-cons A (c .laws .ensures .arithmetic) (code (c .args .coefficient)) higher (code (c .args .point)) (below (c .args .coefficient)) higher-below (below (c .args .point)));
+          c .times-plus .ensures
+          ∙ ap (λ v. A .sum (A .product v (code (c .args .point))) (code (c .args .coefficient))) so-far
+          ∙ sym (evaluation-cons A (c .laws .ensures .arithmetic) (code (c .args .coefficient)) higher (code (c .args .point)) (below (c .args .coefficient)) higher-below (below (c .args .point)));
     }

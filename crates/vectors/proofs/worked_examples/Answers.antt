@@ -7,4 +7,4 @@ use Rattle.vectors.proofs.worked_examples.Needs as need
 
 pub returns : need.returns
 unfolding power byte-product carryless remainder sum-over pair-key
-returns c = record { hold = refl; count = refl }
+returns c = record { hold = refl; count = c .count .ensures }

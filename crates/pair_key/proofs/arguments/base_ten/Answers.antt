@@ -28,12 +28,13 @@ loop-byte-again c =
     let n = c .loop-byte .number in
     let b = getD text i 0 in
     let found = digit-some (is-digit b) (b - 48) (c .in-Some .digit) (c .in-Some .ensures tt) in
-    let next : c .saturating-add-number .result ≡ min (2 ^ 32 - 1) (n * 10 + (b - 48)) = omega (arith, found .1) in
-    (ap (λ k. digits-after k (drop (i + 1) text)) next
-     ∙ sym (digits-more n b (drop (i + 1) text) (found .0))
-     ∙ sym (at-drop-more (digits-after n) text i 0 (c .loop-byte-test .taken))
-     ∙ c .loop-byte .inv .0,
-     c .saturating-add-number .ok)
+    let next : c .saturating-add-number .result ≡ min (2 ^ 32 - 1) (n * 10 + (b - 48)) = omega (arith, found .1) in (
+      ap (λ k. digits-after k (drop (i + 1) text)) next
+          ∙ sym (digits-more n b (drop (i + 1) text) (found .0))
+          ∙ sym (at-drop-more (digits-after n) text i 0 (c .loop-byte-test .taken))
+          ∙ c .loop-byte .inv .0,
+      c .saturating-add-number .ok,
+    )
 
 pub returns : need.returns
 returns c =

@@ -21,12 +21,13 @@ loop-again c =
     let rest-below : c .loop .rest < 256 = omega (arith, c .loop .inv .1, shr-le (c .args .b) (c .loop .counter)) in
     let whole = step (c .loop .multiple) (c .loop .rest) (c .loop .inv .2) rest-below in
     let low = c .loop .rest % 2 * c .loop .multiple in
-    let high = byte-product (c .times-x-multiple .result) (c .loop .rest / 2) in
-    (xor-assoc (c .loop .sum) low high
-      ∙ ap (bitXor (c .loop .sum)) (ap (λ m. bitXor low (byte-product m (c .loop .rest / 2))) (c .times-x-multiple .ensures ∙ times-x (c .loop .multiple) (c .loop .inv .2)) ∙ sym whole)
-      ∙ c .loop .inv .0,
-     ap (λ m. m / 2) (c .loop .inv .1) ∙ shr-shr (c .args .b) (c .loop .counter) 1,
-     c .times-x-multiple .ok)
+    let high = byte-product (c .times-x-multiple .result) (c .loop .rest / 2) in (
+      xor-assoc (c .loop .sum) low high
+          ∙ ap (bitXor (c .loop .sum)) (ap (λ m. bitXor low (byte-product m (c .loop .rest / 2))) (c .times-x-multiple .ensures ∙ times-x (c .loop .multiple) (c .loop .inv .2)) ∙ sym whole)
+          ∙ c .loop .inv .0,
+      ap (λ m. m / 2) (c .loop .inv .1) ∙ shr-shr (c .args .b) (c .loop .counter) 1,
+      c .times-x-multiple .ok,
+    )
 
 pub returns : need.returns
 returns c =
