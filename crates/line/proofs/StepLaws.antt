@@ -9,7 +9,7 @@ use Rattle.std.specs.Results.{okPart}
 use Rattle.std.specs.declared.option.Option.{Option}
 use Rattle.std.specs.declared.option.Option.the-variants.{Some, None}
 use Rattle.std.specs.declared.result.Result.the-variants.{Ok}
-use Rattle.std.proofs.shelf.Tests.{lt-ltb}
+use Rattle.std.proofs.shelf.Tests.{cond-below}
 use Rattle.std.proofs.shelf.Ways.{tells}
 use Rattle.line.specs.declared.refusal.Cause.the-variants.{NoTab, OutOfRange}
 use Rattle.line.specs.declared.refusal.DigitFault.{DigitFault}
@@ -73,9 +73,4 @@ module _ (line place count order : ℕ) (text : List ℕ) where
   codes-fault-each = counted-each (code-fault line place order text) count
 
 pub code-at-within : (part : List ℕ) (index : ℕ) → index < length part / 8 → okPart (unless (digits-fault 1 part (8 * index)) (number-at part (8 * index))) ≡ code-at part index
-unfolding code-at
-code-at-within part index l = rw (lt-ltb index (length part / 8) l, code-at) (by-fault (digits-fault 1 part (8 * index)))
-  where
-    by-fault : (o : Option DigitFault) → okPart (unless o (number-at part (8 * index))) ≡ elim o [ None ↦ Some (number-at part (8 * index)) | Some d ↦ None ]
-    by-fault None = refl
-    by-fault (Some d) = refl
+code-at-within part index l = cond-below index (length part / 8) (okPart (unless (digits-fault 1 part (8 * index)) (number-at part (8 * index)))) None l

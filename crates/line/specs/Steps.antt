@@ -8,13 +8,14 @@ use lib.Dec.{eqb, leb, ltb}
 use lib.ListN.{length, getD}
 use Rattle.std.specs.Iters.{counting}
 use Rattle.std.specs.Options.{mapped}
+use Rattle.std.specs.Results.{okPart}
 use Rattle.std.specs.declared.option.Option.{Option}
 use Rattle.std.specs.declared.option.Option.the-variants.{Some, None}
 use Rattle.line.specs.declared.refusal.Cause.{Cause}
 use Rattle.line.specs.declared.refusal.Cause.the-variants.{NoTab, OutOfRange, BytesAfter}
 use Rattle.line.specs.declared.refusal.LineFault.{LineFault}
 use Rattle.line.specs.declared.steps.Bounds.{Bounds}
-use Rattle.line.specs.Faults.{first, no-digit}
+use Rattle.line.specs.Faults.{first, unless, no-digit}
 use Rattle.line.specs.Digits.{number-at, digits-fault}
 
 abbrev pub fault : ℕ → ℕ → Cause → LineFault
@@ -53,9 +54,9 @@ unfoldable pub codes-in : List ℕ → List ℕ
 codes-in part = map (λ i. number-at part (8 * i)) (counting 0 (length part / 8))
 
 -- the code with this index, if the part has one there in form
-unfoldable pub code-at : List ℕ → ℕ → Option ℕ
+abbrev pub code-at : List ℕ → ℕ → Option ℕ
 code-at part index =
-    cond (ltb index (length part / 8)) (elim (digits-fault 1 part (8 * index)) [ None ↦ Some (number-at part (8 * index)) | Some d ↦ None ]) None
+    cond (ltb index (length part / 8)) (okPart (unless (digits-fault 1 part (8 * index)) (number-at part (8 * index)))) None
 
 -- each code of the part is read by its index
 abbrev pub Readable : List ℕ → Type 0

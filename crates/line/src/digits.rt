@@ -68,8 +68,11 @@ pub(crate) fn write_number(number: u32, buffer: &mut [u8])
     }
 }
 
-// The eight digits of a number.
-pub fn hex(number: u32) -> [u8; 8]
+// The bytes of eight digits.
+pub type Digits = [u8; 8];
+
+// The digits of a number.
+pub fn hex(number: u32) -> Digits
     ensures { λ r. ⌜ r ≡ eight number ⌝ }
 {
     let mut digits = [0u8; 8];

@@ -49,7 +49,7 @@ pub impl fmt::Display for Cause as CauseDisplay {
 }
 
 // The digit reader's fault: at this place of this line no hex digit stands.
-#[derive(Clone, Copy, PartialEq, Eq, Debug)]
+#[derive(Clone, Copy)]
 pub struct DigitFault {
     pub line: u32,
     pub place: usize,
@@ -161,14 +161,14 @@ pub impl From<LineFault> for Refusal as RefusalFromLine {
 // The number, and behind a colon what the refusal adds, if it adds anything.
 pub impl fmt::Display for Refusal as RefusalDisplay {
     fn fmt<W: fmt::Write>(&self, f: &mut fmt::Formatter<W>) -> fmt::Result {
-        let number = self.number();
+        write!(f, "{}", self.number())?;
         match self {
-            Refusal::DrawCode { index } => write!(f, "{number}: code {index}"),
-            Refusal::OutOfForm(fault) => write!(f, "{number}: {fault}"),
-            Refusal::OtherTour { line } => write!(f, "{number}: line {line}"),
-            Refusal::SeatRepeated { line } => write!(f, "{number}: line {line}"),
-            Refusal::Disagrees { line } => write!(f, "{number}: line {line}"),
-            _ => write!(f, "{number}"),
+            Refusal::DrawCode { index } => write!(f, ": code {index}"),
+            Refusal::OutOfForm(fault) => write!(f, ": {fault}"),
+            Refusal::OtherTour { line }
+            | Refusal::SeatRepeated { line }
+            | Refusal::Disagrees { line } => write!(f, ": line {line}"),
+            _ => Ok(()),
         }
     }
 }

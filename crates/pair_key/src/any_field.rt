@@ -54,3 +54,55 @@ pub fn report_any(heap: Global, text: &[u8], others: &[KioskNumber]) -> Result<V
         FieldName::Residues => report::<Residue>(heap, text, others),
     }
 }
+
+#[cfg(test)]
+mod tests {
+    use super::*;
+    use std::test::*;
+
+    // What is printed for the other kiosk 3, or the number of the refusal.
+    fn printed(heap: Global, text: &[u8]) -> Result<Result<Vec<u8>, u32>, Fail> {
+        match report_any(heap, text, &[KioskNumber(3)]) {
+            Ok(lines) => Ok(Ok(lines)),
+            Err(Failure::Refused(refusal)) => Ok(Err(refusal.number())),
+            Err(Failure::Memory) => Err(Fail::new("out of memory")),
+        }
+    }
+
+    fn prints(heap: Global, text: &[u8], line: &[u8]) -> Result<(), Fail> {
+        match printed(heap, text)? {
+            Ok(lines) => check(lines.as_slice() == line),
+            Err(_) => Err(Fail::new("refused")),
+        }
+    }
+
+    #[test]
+    fn bytes(rt: LibcRuntime) -> Result<(), Fail> {
+        let text = b"k\t00000001\t00000007\t00000001\t00000001\t00000002\t0000000500000004\n";
+        prints(
+            rt.alloc(),
+            text,
+            b"kiosk 2 and kiosk 3 of tour 7: 00000009\n",
+        )
+    }
+
+    #[test]
+    fn two_lanes_of_residues(rt: LibcRuntime) -> Result<(), Fail> {
+        let text =
+            b"k\t00000002\tffffffff\t00000001\t00000002\t00000100\t000000130000001d0000010000000100\n";
+        prints(
+            rt.alloc(),
+            text,
+            b"kiosk 256 and kiosk 3 of tour 4294967295: 0000006a 000000fd\n",
+        )
+    }
+
+    #[test]
+    fn a_mark_of_no_field(rt: LibcRuntime) -> Result<(), Fail> {
+        let text = b"k\t00000003\t00000009\t00000001\t00000001\t00000002\t000000130000001d\n";
+        match printed(rt.alloc(), text)? {
+            Ok(_) => Err(Fail::new("not refused")),
+            Err(number) => check_eq(number, 12),
+        }
+    }
+}

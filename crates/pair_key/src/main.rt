@@ -28,27 +28,29 @@ fn numbers(rt: &LibcRuntime) -> Result<Option<Vec<KioskNumber>>, AnyError> {
     Ok(Some(all))
 }
 
+// The keys are printed once all are derived.
 fn run(rt: &LibcRuntime) -> Result<(), AnyError> {
     let Some(others) = numbers(rt)? else {
-        eprintln!(
-            rt,
-            "usage: pair_key NUMBER.. < LINE, the numbers of other kiosks in base ten and a kiosk line"
-        )?;
-        return Err("usage".into());
+        eprintln!(rt, "usage: pair_key NUMBER.. < LINE")?;
+        return Err("the arguments are other kiosks' numbers in base ten, one or more".into());
     };
     let mut text = Vec::new(rt.alloc());
     rt.stdin().read_to_end(&mut text)?;
     match report_any(rt.alloc(), text.as_slice(), others.as_slice()) {
         Ok(lines) => rt.stdout().write_all(lines.as_slice())?,
-        Err(Failure::Refused(refusal)) => {
-            eprintln!(rt, "pair_key: refused {refusal}")?;
-            return Err("refused".into());
-        }
+        Err(Failure::Refused(refusal)) => return Err(format!(
+            rt.alloc(),
+            "refused {refusal}"
+        )?.into()),
         Err(Failure::Memory) => return Err("out of memory".into()),
     }
     Ok(())
 }
 
 fn main(rt: LibcRuntime) -> Result<(), AnyError> {
-    run(&rt)
+    let result = run(&rt);
+    if let Err(error) = &result {
+        let _ = eprintln!(rt, "pair_key: {error}");
+    }
+    result
 }

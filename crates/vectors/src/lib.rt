@@ -9,6 +9,8 @@ mod derivation;
 mod fields;
 #[cfg(test)]
 mod lines;
+#[cfg(test)]
+mod refusals;
 
 fn count() -> usize
     ensures { λ r. ⌜ r ≡ length examples ⌝ }

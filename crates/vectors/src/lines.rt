@@ -22,7 +22,7 @@ use std::test::*;
 pub const KIOSK_2: [u8; 64] =
     *b"k\t00000002\t00000009\t00000001\t00000001\t00000002\t000000130000001d\n";
 
-pub fn kiosk_2() -> KioskHead {
+fn kiosk_2() -> KioskHead {
     KioskHead {
         mark: 2,
         tour: 9,
