@@ -1,9 +1,7 @@
 -- The bytes keep the laws of a field. Their product is additive in each factor, so that most laws need be checked at powers of two alone.
 use mathlib.Core.Path.{_≡_, refl, sym, ap, _∙_}
 use mathlib.Core.Bool.{Bool, true}
-use mathlib.Core.HLevel.{Σ-prop-path}
 use Prim.Native.Nat.{ℕ, zero, suc, _+_, _*_, _/_, _%_, _^_, _<_}
-use native.Mathlib.Bridge.{le-prop}
 use native.Mathlib.Omega.{arith}
 use lib.Bits.{bitXor, xor-zero-l, xor-assoc, xor-comm, xor-self, xor-shr, xor-mod, xor-lt}
 use lib.Dec.{eqb, ltb}
@@ -13,6 +11,7 @@ use Rattle.field.specs.Arith.{Laws, Coding, power}
 use Rattle.field.specs.Bytes.{carryless, remainder, byte-product, byte-arith}
 use Rattle.field.specs.declared.byte.Byte.{Byte}
 use Rattle.field.proofs.Checks.{all-below, at}
+use Rattle.field.proofs.Codes.{Code, same-code}
 use Rattle.field.proofs.Powers.{Monoid, squares, power-below, power-254, inverts, inverts-at}
 use Rattle.field.proofs.Xor.{Additive, additive-zero, agree, additive-below, xor-swap, bit, bit-additive, shift-additive, bit-times, times-bits}
 
@@ -159,13 +158,10 @@ byte-laws = record {
   inverse-else = λ x h nonzero. (power byte-product x 254, rw (ne-eqb x 0 nonzero), power-below byte-monoid x h 254, power-inverse x h nonzero);
 }
 
-same : (p q : (v : ℕ) × (v < 256)) → p .0 ≡ q .0 → p ≡ q
-same p q e = Σ-prop-path (λ (v : ℕ). le-prop) e
-
 pub byte-coding : Coding byte-arith (λ (x : Byte). x .value)
 byte-coding = record {
   below = λ x. x .ok;
-  apart = λ x y e. ap (λ (p : (v : ℕ) × (v < 256)). record { value = p .0; ok = p .1 }) (same (x .value, x .ok) (y .value, y .ok) e);
+  apart = λ x y e. ap (λ (p : Code byte-arith). record { value = p .0; ok = p .1 }) (same-code byte-arith (x .value, x .ok) (y .value, y .ok) e);
   each = λ c h. (record { value = c; ok = h }, refl);
 }
 

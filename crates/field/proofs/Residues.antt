@@ -1,9 +1,7 @@
 -- The residues modulo 257 keep the laws of a field.
 use mathlib.Core.Path.{_≡_, refl, sym, ap, _∙_}
 use mathlib.Core.Bool.{true}
-use mathlib.Core.HLevel.{Σ-prop-path}
 use Prim.Native.Nat.{ℕ, _+_, _*_, _/_, _%_, _<_}
-use native.Mathlib.Bridge.{le-prop}
 use native.Mathlib.Nat.{mul-comm, mul-assoc, mul-add, mul-left-comm, one-mul, add-mod, mod-eq-of-lt, mul-add-mod-self-left, div-add-mod}
 use native.Mathlib.Omega.{arith}
 use Rattle.std.proofs.shelf.Bits.{mod-below}
@@ -11,6 +9,7 @@ use Rattle.std.proofs.shelf.Tests.{ne-eqb}
 use Rattle.field.specs.Arith.{Laws, Coding, power}
 use Rattle.field.specs.Residues.{residue-product, residue-arith}
 use Rattle.field.specs.declared.residue.Residue.{Residue}
+use Rattle.field.proofs.Codes.{Code, same-code}
 use Rattle.field.proofs.Powers.{Monoid, squares, power-below, power-255, inverts, inverts-at}
 
 -- a factor may be reduced before the product is
@@ -71,12 +70,9 @@ residue-laws = record {
   inverse-else = λ x h nonzero. (power residue-product x 255, rw (ne-eqb x 0 nonzero), power-below residue-monoid x h 255, power-inverse x h nonzero);
 }
 
-same : (p q : (v : ℕ) × (v < 257)) → p .0 ≡ q .0 → p ≡ q
-same p q e = Σ-prop-path (λ (v : ℕ). le-prop) e
-
 pub residue-coding : Coding residue-arith (λ (x : Residue). x .value)
 residue-coding = record {
   below = λ x. x .ok;
-  apart = λ x y e. ap (λ (p : (v : ℕ) × (v < 257)). record { value = p .0; ok = p .1 }) (same (x .value, x .ok) (y .value, y .ok) e);
+  apart = λ x y e. ap (λ (p : Code residue-arith). record { value = p .0; ok = p .1 }) (same-code residue-arith (x .value, x .ok) (y .value, y .ok) e);
   each = λ c h. (record { value = c; ok = h }, refl);
 }

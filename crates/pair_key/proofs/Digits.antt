@@ -1,6 +1,6 @@
 -- Numbers in base ten, digit by digit.
 use mathlib.Core.Path.{_≡_, refl, sym, ap, _∙_}
-use mathlib.Core.Bool.{Bool, true, false, cond}
+use mathlib.Core.Bool.{true, false, cond}
 use mathlib.Core.List.{List, [], _∷_}
 use mathlib.Core.Logic.{⊎-elim}
 use Prim.Native.Nat.{ℕ, _+_, _-_, _*_, _^_, _<_, _≤_, min}
@@ -31,11 +31,3 @@ digits-stop n b bs e = rw e refl
 pub base-ten-is : (bs : List ℕ) → 0 < length bs → base-ten bs ≡ digits-after 0 bs
 base-ten-is [] h = absurd (omega arith)
 base-ten-is (b ∷ bs) h = refl
-
-pub digit-some : (t : Bool) (x d : ℕ) → Some d ≡ cond t (Some x) None → (t ≡ true) × (d ≡ x)
-digit-some true x d e = (refl, cc)
-digit-some false x d e = let z : _≡_ {A = ℕ} 0 1 = cc in absurd (omega arith)
-
-pub digit-none : (t : Bool) (x : ℕ) → None ≡ cond t (Some x) None → t ≡ false
-digit-none false x e = refl
-digit-none true x e = let z : _≡_ {A = ℕ} 0 1 = cc in absurd (omega arith)
