@@ -2,7 +2,7 @@
 use mathlib.Core.Path.{_≡_, refl, sym, ap, subst, _∙_}
 use mathlib.Core.Logic.{_⊎_, inl, inr}
 use mathlib.Core.List.{List, [], _∷_, map}
-use Prim.Native.Nat.{ℕ, zero, suc, _<_, _≤_}
+use Prim.Native.Nat.{ℕ, zero, suc, _+_, _<_, _≤_}
 use native.Mathlib.Omega.{arith}
 use lib.ListN.{getD, take}
 use Rattle.std.specs.Iters.{counting}
@@ -11,6 +11,7 @@ use Rattle.std.specs.declared.option.Option.{Option}
 use Rattle.std.specs.declared.option.Option.the-variants.{Some, None}
 use Rattle.std.specs.declared.result.Result.{Result}
 use Rattle.std.specs.declared.result.Result.the-variants.{Ok, Err}
+use Rattle.std.specs.Options.{Cases, mapped}
 use Rattle.std.specs.Results.{ErrBy}
 use Rattle.std.proofs.shelf.Counted.{getD-map-counting, length-map-counting, take-map-counting}
 use Rattle.std.proofs.shelf.Elements.{all-from-getD, all-getD}
@@ -70,6 +71,31 @@ counted-some f n i x l h e =
 pub first-one : {X : Type 0} (o : Option X) → first (o ∷ []) ≡ o
 first-one None = refl
 first-one (Some x) = refl
+
+-- what holds where a check finds no fault, and what of the fault that it finds
+pub record Passes {X : Type 0} (P : Type 0) (R : X → Type 0) (check : Option X) : Type 0 where
+  pub by : Cases check P R
+
+-- It goes from check to check.
+
+pub passes : {X : Type 0} {P Q : Type 0} {R : X → Type 0} (c : Option X) (checks : List (Option X)) → Passes P R c → (P → Passes Q R (first checks)) → Passes Q R (first (c ∷ checks))
+passes None checks here behind = behind (here .by)
+passes (Some x) checks here behind = record { by = here .by }
+
+pub passes-last : {X : Type 0} {P : Type 0} {R : X → Type 0} (c : Option X) → Passes P R c → Passes P R (first (c ∷ []))
+passes-last c here = passes c [] here (λ p. record { by = p })
+
+pub passes-mapped : {X Y : Type 0} {P : Type 0} (R : Y → Type 0) (f : X → Y) (c : Option X) → Passes P (λ x. R (f x)) c → Passes P R (mapped f c)
+passes-mapped R f None here = record { by = here .by }
+passes-mapped R f (Some x) here = record { by = here .by }
+
+module _ {X : Type 0} (P : ℕ → Type 0) (R : X → Type 0) (f : ℕ → Option X) (n : ℕ) (each : (k : ℕ) → k < n → P k → Passes (P (k + 1)) R (f k)) where
+  passes-from : (m a : ℕ) → a + m ≡ n → P a → Passes (P n) R (first (map f (counting a m)))
+  passes-from zero a e p = let same : a ≡ n = omega arith in record { by = subst P same p }
+  passes-from (suc m) a e p = passes (f a) (map f (counting (a + 1) m)) (each a (omega arith) p) (passes-from m (a + 1) (omega arith))
+
+  pub passes-counted : P 0 → Passes (P n) R (first (map f (counting 0 n)))
+  passes-counted = passes-from n 0 (omega arith)
 
 -- What an answer says of the fault
 

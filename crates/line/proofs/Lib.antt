@@ -1,9 +1,13 @@
 pub mod Checks
+pub mod Cut
 pub mod HexDigits
+pub mod KioskCut
 pub mod KioskExact
 pub mod KioskLaws
 pub mod KioskReadsBack
+pub mod KioskPlaces
 pub mod Numbers
+pub mod Places
 pub mod Standing
 pub mod StepLaws
 pub mod Written

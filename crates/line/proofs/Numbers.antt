@@ -10,11 +10,11 @@ use Rattle.line.specs.Digits.{digit-value, eight, value-after, number-at, digi
 use Rattle.line.proofs.Checks.{some≢none, either, counted-none, counted-some, counted-each}
 use Rattle.line.proofs.HexDigits.{Hexes, last-digits, eight-is, length-last-digits, hexes-last-digits, value-last-digits, last-digits-value, value-small}
 
-digit-fault-none : (line place d : ℕ) (text : List ℕ) → digit-value (getD text place 0) ≡ Some d → digit-fault line text place ≡ None
+pub digit-fault-none : (line place d : ℕ) (text : List ℕ) → digit-value (getD text place 0) ≡ Some d → digit-fault line text place ≡ None
 unfolding digit-fault
 digit-fault-none line place d text e = rw (e, digit-fault)
 
-digit-fault-some : (line place : ℕ) (text : List ℕ) → digit-value (getD text place 0) ≡ None → digit-fault line text place ≡ Some (record { line = line; place = place })
+pub digit-fault-some : (line place : ℕ) (text : List ℕ) → digit-value (getD text place 0) ≡ None → digit-fault line text place ≡ Some (record { line = line; place = place })
 unfolding digit-fault
 digit-fault-some line place text e = rw (e, digit-fault)
 

@@ -1,20 +1,23 @@
 -- The kiosk line: the letter k, five numbers and the codes of a share, in 48 + 8·m(t+1) bytes.
 use mathlib.Core.Path.{_≡_}
+use mathlib.Core.Bool.{cond, _||_}
 use mathlib.Core.List.{List, [], _∷_, _++_}
 use Prim.Native.Nat.{ℕ, _+_, _*_, _^_, _≤_, _<_}
+use lib.Dec.{eqb}
 use lib.ListN.{length, take, drop}
 use Rattle.std.specs.Joined.{joined}
 use Rattle.std.specs.shelf.Lists.{All}
 use Rattle.std.specs.declared.option.Option.{Option}
 use Rattle.std.specs.declared.result.Result.{Result}
 use Rattle.std.specs.declared.result.Result.the-variants.{Ok, Err}
-use Rattle.line.specs.declared.refusal.Cause.the-variants.{WrongLetter, NoTab, NoLineFeed, OutOfRange, OtherMark}
+use Rattle.line.specs.declared.refusal.Cause.{Cause}
+use Rattle.line.specs.declared.refusal.Cause.the-variants.{WrongLetter, NoTab, NoHexDigit, NoLineFeed, OutOfRange, OtherMark}
 use Rattle.line.specs.declared.refusal.LineFault.{LineFault}
 use Rattle.line.specs.declared.kiosk_line.KioskHead.{KioskHead}
 use Rattle.line.specs.declared.kiosk_line.KioskLine.{KioskLine}
 use Rattle.line.specs.Faults.{first, unless}
 use Rattle.line.specs.Digits.{eight, number-at}
-use Rattle.line.specs.Steps.{byte-fault, field-fault, codes-fault, end-fault, codes-in, Readable}
+use Rattle.line.specs.Steps.{fault, byte-fault, field-fault, codes-fault, end-fault, codes-in, Readable}
 
 -- the codes of a share: t + 1 in each of m lanes
 abbrev pub share-size : KioskHead → ℕ
@@ -117,3 +120,23 @@ pub record Exact (mark order : ℕ) (text : List ℕ) (head : KioskHead) (part :
   pub written : text ≡ kiosk-line head (codes-in part)
   pub in-form : InForm mark order head (codes-in part)
   pub readable : Readable part
+
+-- A fault that is found names the line that was read, and a place in its text or at its end.
+pub record Found (line : ℕ) (text : List ℕ) (fault : LineFault) : Type 0 where
+  pub line-is : fault .line ≡ line
+  pub place-within : fault .place ≤ length text
+
+-- the cause that names what is missing at a place, in a line with this many codes that ends there too early
+unfoldable pub missing : ℕ → ℕ → Cause
+missing size place =
+    cond (eqb place 0) WrongLetter
+    (cond (eqb place 1 || (eqb place 10 || (eqb place 19 || (eqb place 28 || (eqb place 37 || eqb place 46))))) NoTab
+    (cond (eqb place (47 + 8 * size)) NoLineFeed
+    NoHexDigit))
+
+-- A line that is cut short anywhere is refused at its end, with the cause of what is missing there.
+abbrev pub Cut-short : ℕ → ℕ → ℕ → List ℕ → Result Read LineFault → Type 0
+Cut-short line mark order text answer =
+    (head : KioskHead) (codes : List ℕ) (n : ℕ) → order ≤ 2 ^ 32 → InForm mark order head codes → n < length (kiosk-line head codes)
+    → text ≡ take n (kiosk-line head codes)
+    → answer ≡ Err (fault line n (missing (share-size head) n))

@@ -9,7 +9,7 @@ ghost use Rattle.std.specs.Results.{Cases};
 ghost use Rattle.std.specs.declared.result.Result.the-variants.{Ok, Err};
 ghost use Rattle.line.specs.declared.refusal.Refusal.the-variants.{BufferTooShort};
 ghost use Rattle.line.specs.Faults.{unless};
-ghost use Rattle.line.specs.KioskLine.{share-size, line-length, kiosk-front, kiosk-line, kiosk-head, head-fault, reading, seen, Reads-back, Exact};
+ghost use Rattle.line.specs.KioskLine.{share-size, line-length, kiosk-front, kiosk-line, kiosk-head, head-fault, reading, seen, Reads-back, Exact, Found, Cut-short};
 use crate::codes::CodeText;
 use crate::codes::write_codes;
 use crate::digits::write_field;
@@ -89,6 +89,8 @@ impl<'a> KioskLine<'a> {
     ) -> Result<KioskLine<'a>, LineFault>
         ensures answer { λ r. ⌜ seen r ≡ reading line mark order (now (text .entry)) ⌝ }
         ensures exact { λ r. ⌜ Cases r (λ l. Exact mark order (now (text .entry)) (l .head) (l .codes .text .now)) (λ _. Unit {0}) ⌝ }
+        ensures found { λ r. ⌜ Cases r (λ _. Unit {0}) (λ f. Found line (now (text .entry)) f) ⌝ }
+        ensures cut_short { λ r. ⌜ Cut-short line mark order (now (text .entry)) (seen r) ⌝ }
     {
         let head = head(line, mark, order, text)?;
         let size = head.share_size();
