@@ -8,12 +8,12 @@ use lib.Dec.{eqb, ltb}
 use Rattle.std.proofs.shelf.Bits.{mod-below}
 use Rattle.std.proofs.shelf.Tests.{eqb-true, ltb-true, ne-eqb}
 use Rattle.field.specs.Arith.{Laws, Coding, power}
-use Rattle.field.specs.Bytes.{carryless, remainder, byte-product, byte-arith}
+use Rattle.field.specs.Bytes.{carryless, remainder, Congruent, byte-product, byte-arith}
 use Rattle.field.specs.declared.byte.Byte.{Byte}
 use Rattle.field.proofs.Checks.{all-below, at}
 use Rattle.field.proofs.Codes.{Code, same-code}
 use Rattle.field.proofs.Powers.{Monoid, squares, power-below, power-254, inverts, inverts-at}
-use Rattle.field.proofs.Xor.{Additive, additive-zero, agree, additive-below, xor-swap, bit, bit-additive, shift-additive, bit-times, times-bits}
+use Rattle.field.proofs.Xor.{Additive, by-bits, additive-zero, agree, additive-below, xor-swap, bit, bit-additive, shift-additive, bit-times, times-bits}
 
 bit-below : (n x : ℕ) → bit n x < 2
 bit-below n x = mod-below (x / 2 ^ n) 2 (omega arith)
@@ -75,6 +75,44 @@ product-below a b ha hb =
     additive-below (λ x. byte-product x b) (product-left b) 8 8
     (λ i hi. additive-below (byte-product (2 ^ i)) (product-right (2 ^ i)) 8 8 (λ j hj. ltb-true (byte-product (2 ^ i) (2 ^ j)) 256 (pairs-at (λ x y. ltb (byte-product x y) 256) below-test i j hi hj)) b hb)
     a ha
+
+-- the quotient of the long division whose remainder is defined
+quotient : ℕ → ℕ → ℕ
+quotient zero r = 0
+quotient (suc n) r = bit (n + 8) r * 2 ^ n + quotient n (bitXor r (bit (n + 8) r * (0x11b * 2 ^ n)))
+
+division-test : all-below 15 (λ i. eqb (2 ^ i) (bitXor (carryless 7 0x11b (quotient 7 (2 ^ i))) (remainder 7 (2 ^ i)))) ≡ true
+unfolding quotient carryless remainder
+division-test = refl
+
+division : (n : ℕ) → n < 2 ^ 15 → Congruent n (remainder 7 n)
+division =
+    by-bits (λ n. Congruent n (remainder 7 n))
+    (0, sym (additive-zero (λ n. bitXor (carryless 7 0x11b n) (remainder 7 n)) (λ x y. both x y x y)))
+    (λ x y p q. (bitXor (p .0) (q .0), ap (λ n. bitXor n y) (p .1) ∙ ap (bitXor (bitXor (carryless 7 0x11b (p .0)) (remainder 7 x))) (q .1) ∙ sym (both (p .0) (q .0) x y)))
+    15
+    (λ i hi. (quotient 7 (2 ^ i), eqb-true (2 ^ i) (bitXor (carryless 7 0x11b (quotient 7 (2 ^ i))) (remainder 7 (2 ^ i))) (at 15 (λ j. eqb (2 ^ j) (bitXor (carryless 7 0x11b (quotient 7 (2 ^ j))) (remainder 7 (2 ^ j)))) division-test i hi)))
+  where
+    both : (p q x y : ℕ) → bitXor (carryless 7 0x11b (bitXor p q)) (remainder 7 (bitXor x y)) ≡ bitXor (bitXor (carryless 7 0x11b p) (remainder 7 x)) (bitXor (carryless 7 0x11b q) (remainder 7 y))
+    both p q x y =
+        ap (λ n. bitXor n (remainder 7 (bitXor x y))) (carryless-right 7 0x11b p q)
+        ∙ ap (bitXor (bitXor (carryless 7 0x11b p) (carryless 7 0x11b q))) (remainder-additive 7 x y)
+        ∙ xor-swap (carryless 7 0x11b p) (carryless 7 0x11b q) (remainder 7 x) (remainder 7 y)
+
+degree-test : pairs (λ a b. ltb (carryless 8 a b) (2 ^ 15)) ≡ true
+unfolding pairs carryless
+degree-test = refl
+
+degree : (a b : ℕ) → a < 256 → b < 256 → carryless 8 a b < 2 ^ 15
+degree a b ha hb =
+    additive-below (λ x. carryless 8 x b) (carryless-left 8 b) 15 8
+    (λ i hi. additive-below (carryless 8 (2 ^ i)) (carryless-right 8 (2 ^ i)) 15 8
+    (λ j hj. ltb-true (carryless 8 (2 ^ i) (2 ^ j)) (2 ^ 15) (pairs-at (λ x y. ltb (carryless 8 x y) (2 ^ 15)) degree-test i j hi hj)) b hb)
+    a ha
+
+pub product-congruent : (a b : ℕ) → a < 256 → b < 256 → Congruent (carryless 8 a b) (byte-product a b)
+unfolding byte-product
+product-congruent a b ha hb = division (carryless 8 a b) (degree a b ha hb)
 
 comm-test : pairs (λ a b. eqb (byte-product a b) (byte-product b a)) ≡ true
 unfolding pairs byte-product carryless remainder

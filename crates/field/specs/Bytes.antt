@@ -1,4 +1,5 @@
 -- The field of bytes: polynomials over two elements, taken modulo x^8 + x^4 + x^3 + x + 1. Bit i of a number is the coefficient of x^i.
+use mathlib.Core.Path.{_≡_}
 use mathlib.Core.Bool.{cond}
 use Prim.Native.Nat.{ℕ, zero, suc, _+_, _*_, _/_, _%_, _^_}
 use lib.Bits.{bitXor}
@@ -16,6 +17,10 @@ carryless (suc n) a b = bitXor (carryless n a b) (b / 2 ^ n % 2 * (a * 2 ^ n))
 unfoldable pub remainder : ℕ → ℕ → ℕ
 remainder zero r = r
 remainder (suc n) r = remainder n (bitXor r (r / 2 ^ (n + 8) % 2 * (0x11b * 2 ^ n)))
+
+-- the same polynomial modulo hex 11b: the two differ by a multiple of it, of degree below 15
+abbrev pub Congruent : ℕ → ℕ → Type 0
+Congruent m n = (q : ℕ) × (m ≡ bitXor (carryless 7 0x11b q) n)
 
 -- the product of two bytes has degree 14 at most
 unfoldable pub byte-product : ℕ → ℕ → ℕ

@@ -3,7 +3,7 @@ ghost use mathlib.Core.Path.{_≡_};
 ghost use Prim.Native.Nat.{_*_, _/_, _%_};
 ghost use lib.Bits.{bitXor};
 ghost use Rattle.field.specs.Arith.{power};
-ghost use Rattle.field.specs.Bytes.{byte-arith, byte-product};
+ghost use Rattle.field.specs.Bytes.{byte-arith, byte-product, carryless, Congruent};
 use super::Byte;
 use crate::interface::Field;
 
@@ -22,7 +22,8 @@ fn times_x(a: u8) -> u8
 }
 
 fn times(a: u8, b: u8) -> u8
-    ensures { λ r. ⌜ r ≡ byte-product a b ⌝ }
+    ensures value { λ r. ⌜ r ≡ byte-product a b ⌝ }
+    ensures congruent { λ r. ⌜ Congruent (carryless 8 a b) r ⌝ }
 {
     let mut multiple = a;
     let mut rest = b;
@@ -73,7 +74,11 @@ pub impl Field for Byte as ByteField {
         self
     }
 
-    fn product(self, other: Byte) -> Byte {
+    // Besides what every field promises: the product is that of the polynomials, but for a multiple of the modulus.
+    fn product(self, other: Byte) -> Byte
+        ensures value { λ r. ⌜ r .value ≡ byte-product (self .value) (other .value) ⌝ }
+        ensures congruent { λ r. ⌜ Congruent (carryless 8 (self .value) (other .value)) (r .value) ⌝ }
+    {
         Byte {
             value: times(self.value, other.value),
         }

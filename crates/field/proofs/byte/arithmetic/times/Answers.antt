@@ -5,7 +5,7 @@ use native.Mathlib.Omega.{arith}
 use lib.Bits.{bitXor, xor-assoc, xor-zero-l, xor-zero-r}
 use Rattle.std.proofs.shelf.Bits.{shr-shr, mul-le, mod-below, shr-le}
 use Rattle.field.specs.Bytes.{byte-product}
-use Rattle.field.proofs.Bytes.{times-x, step, product-zero}
+use Rattle.field.proofs.Bytes.{times-x, step, product-zero, product-congruent}
 use Rattle.field.proofs.byte.arithmetic.times.Needs as need
 
 pub loop-holds : need.loop-holds
@@ -33,6 +33,8 @@ pub returns : need.returns
 returns c =
     let ended : c .loop .counter ≡ 8 = omega arith in
     let empty : c .loop .rest ≡ 0 = c .loop .inv .1 ∙ ap (λ n. c .args .b / 2 ^ n) ended ∙ omega arith in
+    let value : c .loop .sum ≡ byte-product (c .args .a) (c .args .b) =
     sym (xor-zero-r (c .loop .sum))
     ∙ ap (bitXor (c .loop .sum)) (sym (product-zero (c .loop .multiple)) ∙ ap (byte-product (c .loop .multiple)) (sym empty))
-    ∙ c .loop .inv .0
+    ∙ c .loop .inv .0 in
+    record { value = value; congruent = rw value (product-congruent (c .args .a) (c .args .b) (omega arith) (omega arith)) }
