@@ -38,10 +38,10 @@ fn run(rt: &LibcRuntime) -> Result<(), AnyError> {
     rt.stdin().read_to_end(&mut text)?;
     match report_any(rt.alloc(), text.as_slice(), others.as_slice()) {
         Ok(lines) => rt.stdout().write_all(lines.as_slice())?,
-        Err(Failure::Refused(refusal)) => return Err(format!(
-            rt.alloc(),
-            "refused {refusal}"
-        )?.into()),
+        Err(Failure::Refused(refusal)) => {
+            let words = format!(rt.alloc(), "refused {refusal}")?;
+            return Err(words.into());
+        }
         Err(Failure::Memory) => return Err("out of memory".into()),
     }
     Ok(())

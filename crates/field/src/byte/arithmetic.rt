@@ -21,6 +21,7 @@ fn times_x(a: u8) -> u8
     (a << 1) ^ (X_TO_8 * (a >> 7))
 }
 
+// The product, by shift and add: a multiplication by a bit stands where a branch on it would.
 fn times(a: u8, b: u8) -> u8
     ensures value { λ r. ⌜ r ≡ byte-product a b ⌝ }
     ensures congruent { λ r. ⌜ Congruent (carryless 8 a b) r ⌝ }
