@@ -1,11 +1,10 @@
 -- A test of every number below a bound, which antt computes.
-use mathlib.Core.Path.{_≡_, refl, sym, subst}
-use mathlib.Core.Bool.{Bool, true, false, _&&_}
+use mathlib.Core.Path.{_≡_}
+use mathlib.Core.Bool.{Bool, true, _&&_}
 use mathlib.Core.Logic.{⊎-elim}
 use Prim.Native.Nat.{ℕ, zero, suc, _<_}
 use native.Mathlib.Nat.{not-suc-le-zero}
 use native.Mathlib.Omega.{arith}
-use lib.Dec.{T}
 use Rattle.std.proofs.shelf.Tests.{cases-eq, and-parts}
 
 abbrev pub all-below : ℕ → (ℕ → Bool) → Bool

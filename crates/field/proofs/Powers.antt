@@ -6,7 +6,7 @@ use Prim.Native.Nat.{ℕ, zero, suc, _+_, _-_, _<_, _≤_}
 use native.Mathlib.Nat.{zero-add, suc-add}
 use lib.Dec.{eqb}
 use Rattle.std.proofs.shelf.Tests.{eqb-true, or-cases}
-use Rattle.field.specs.Arith.{Arith, Laws, power}
+use Rattle.field.specs.Arith.{power}
 use Rattle.field.proofs.Checks.{all-below, at}
 use native.Mathlib.Omega.{arith}
 

@@ -17,9 +17,6 @@ pub record Ring (E : Type 0) : Type 0 where
   pub mul-add : (x y z : E) → mul x (add y z) ≡ add (mul x y) (mul x z)
 
 module _ {E : Type 0} (R : Ring E) where
-  pub add-zero : (x : E) → R .add x (R .zero) ≡ x
-  add-zero x = R .add-comm x (R .zero) ∙ R .zero-add x
-
   pub mul-one : (x : E) → R .mul x (R .one) ≡ x
   mul-one x = R .mul-comm x (R .one) ∙ R .one-mul x
 

@@ -1,12 +1,11 @@
 -- Exclusive or on numbers, and maps that respect it, which are known by what they do to the powers of two.
-use mathlib.Core.Path.{_≡_, refl, sym, ap, _∙_}
+use mathlib.Core.Path.{_≡_, sym, ap, _∙_}
 use mathlib.Core.Logic.{⊎-elim}
-use Prim.Native.Nat.{ℕ, zero, suc, _+_, _-_, _*_, _/_, _%_, _^_, _<_, _≤_}
-use native.Mathlib.Nat.{add-zero, zero-mul, one-mul, mul-zero, pow-suc}
+use Prim.Native.Nat.{ℕ, zero, suc, _-_, _*_, _/_, _%_, _^_, _<_}
+use native.Mathlib.Nat.{add-zero, zero-mul, one-mul, pow-suc}
 use native.Mathlib.Omega.{arith}
 use lib.Bits.{bitXor, xor-zero-l, xor-zero-r, xor-assoc, xor-comm, xor-self, xor-block, xor-shifted, xor-shr, xor-mod, xor-lt}
 use lib.Pow.{pow-pos}
-use Rattle.std.proofs.shelf.Bits.{mod-below}
 use Rattle.std.proofs.shelf.Tests.{cases-lt}
 
 -- a map that takes exclusive or to exclusive or

@@ -13,7 +13,8 @@ use Rattle.line.specs.declared.refusal.Cause.the-variants.{WrongLetter, NoTab,
 use Rattle.line.specs.declared.refusal.LineFault.{LineFault}
 use Rattle.line.specs.declared.kiosk_line.KioskLine.{KioskLine}
 use Rattle.line.specs.Faults.{unless}
-use Rattle.line.specs.KioskLine.{share-size, kiosk-head, kiosk-codes, head-fault, kiosk-fault, Read, reading, seen, Found}
+use Rattle.line.specs.Steps.{Found}
+use Rattle.line.specs.KioskLine.{share-size, kiosk-head, kiosk-codes, head-fault, kiosk-fault, Read, reading, seen}
 use Rattle.line.proofs.Checks.{Passes, passes, passes-last}
 use Rattle.line.proofs.KioskLaws.{mark-bounds, tour-bounds, degree-bounds, lanes-bounds, number-bounds, letter-check, mark-check, tour-check, degree-check, lanes-check, number-check, tab-check, codes-check, line-feed-check, end-check}
 use Rattle.line.proofs.Places.{byte-place, end-place, field-place, codes-place}

@@ -1,5 +1,5 @@
 -- Where the faults of steps lie: a step that begins in the text or at its end finds its fault there, or ends there itself.
-use mathlib.Core.Path.{_≡_, refl, sym, ap, _∙_}
+use mathlib.Core.Path.{_≡_, refl}
 use mathlib.Core.Logic.{inl, inr}
 use mathlib.Core.Bool.{_&&_}
 use mathlib.Core.List.{List, [], _∷_}
@@ -9,17 +9,16 @@ use lib.Dec.{eqb, leb, ltb}
 use lib.ListN.{length, getD}
 use Rattle.std.specs.Options.{mapped}
 use Rattle.std.specs.declared.option.Option.the-variants.{Some, None}
-use Rattle.std.proofs.shelf.Lists.{getD-past}
-use Rattle.std.proofs.shelf.Tests.{cases-lt, cond-true, cond-both}
+use Rattle.std.proofs.shelf.Tests.{cond-true, cond-both}
 use Rattle.line.specs.declared.refusal.Cause.{Cause}
 use Rattle.line.specs.declared.refusal.Cause.the-variants.{NoTab, NoHexDigit, BytesAfter}
 use Rattle.line.specs.declared.refusal.LineFault.{LineFault}
 use Rattle.line.specs.declared.steps.Bounds.{Bounds}
 use Rattle.line.specs.Faults.{no-digit}
 use Rattle.line.specs.Digits.{digit-value, number-at, digit-fault, digits-fault}
-use Rattle.line.specs.Steps.{fault, byte-fault, end-fault, bounds-fault, value-fault, field-fault, codes-fault}
-use Rattle.line.specs.KioskLine.{Found}
-use Rattle.line.proofs.Checks.{some≢none, either, Passes, passes, passes-last, passes-mapped, passes-counted}
+use Rattle.line.specs.Steps.{fault, byte-fault, end-fault, bounds-fault, value-fault, field-fault, codes-fault, Found}
+use Rattle.line.proofs.Checks.{either, Passes, passes, passes-last, passes-mapped, passes-counted}
+use Rattle.line.proofs.HexDigits.{digit-within}
 use Rattle.line.proofs.Numbers.{digit-fault-none, digit-fault-some}
 use Rattle.line.proofs.Standing.{byte-within}
 use Rattle.line.proofs.StepLaws.{code-bounds, code-fault}
@@ -64,17 +63,10 @@ module _ (line : ℕ) (text : List ℕ) where
       (λ e. record { by = found-at place BytesAfter within })
       (λ e. record { by = within })
 
-  digit-within : (place d : ℕ) → digit-value (getD text place 0) ≡ Some d → place < length text
-  digit-within place d e =
-      elim (cases-lt place (length text)) [
-        | inl within ↦ within
-        | inr past ↦ absurd (some≢none d (sym e ∙ ap digit-value (getD-past text place 0 past)))
-      ]
-
   digit-place : (place end : ℕ) → place + 1 ≡ end → place ≤ length text → Passes (end ≤ length text) (λ d. Found line text (no-digit d)) (digit-fault line text place)
   digit-place place end long within =
       elim (either (digit-value (getD text place 0))) [
-        | inl found ↦ rw (digit-fault-none line place (found .0) text (found .1)) (record { by = omega (arith, digit-within place (found .0) (found .1)) })
+        | inl found ↦ rw (digit-fault-none line place (found .0) text (found .1)) (record { by = omega (arith, digit-within text place (found .0) (found .1)) })
         | inr none ↦ rw (digit-fault-some line place text none) (record { by = found-at place NoHexDigit within })
       ]
 

@@ -121,11 +121,6 @@ pub record Exact (mark order : ℕ) (text : List ℕ) (head : KioskHead) (part :
   pub in-form : InForm mark order head (codes-in part)
   pub readable : Readable part
 
--- A fault that is found names the line that was read, and a place in its text or at its end.
-pub record Found (line : ℕ) (text : List ℕ) (fault : LineFault) : Type 0 where
-  pub line-is : fault .line ≡ line
-  pub place-within : fault .place ≤ length text
-
 -- the cause that names what is missing at a place, in a line with this many codes that ends there too early
 unfoldable pub missing : ℕ → ℕ → Cause
 missing size place =

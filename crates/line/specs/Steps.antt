@@ -3,7 +3,7 @@
 use mathlib.Core.Path.{_≡_}
 use mathlib.Core.Bool.{cond, _&&_}
 use mathlib.Core.List.{List, [], _∷_, map}
-use Prim.Native.Nat.{ℕ, _+_, _*_, _/_, _<_}
+use Prim.Native.Nat.{ℕ, _+_, _*_, _/_, _<_, _≤_}
 use lib.Dec.{eqb, leb, ltb}
 use lib.ListN.{length, getD}
 use Rattle.std.specs.Iters.{counting}
@@ -61,3 +61,8 @@ code-at part index =
 -- each code of the part is read by its index
 abbrev pub Readable : List ℕ → Type 0
 Readable part = (i : ℕ) → i < length (codes-in part) → code-at part i ≡ Some (getD (codes-in part) i 0)
+
+-- A fault that is found names the line that was read, and a place in its text or at its end.
+pub record Found (line : ℕ) (text : List ℕ) (fault : LineFault) : Type 0 where
+  pub line-is : fault .line ≡ line
+  pub place-within : fault .place ≤ length text

@@ -2,14 +2,12 @@
 use mathlib.Core.Bool.{Bool, true, false, cond}
 use mathlib.Core.List.{List}
 use Prim.Native.Nat.{ℕ}
-use Rattle.std.specs.declared.option.Option.{Option}
 use Rattle.std.specs.declared.option.Option.the-variants.{Some, None}
 use Rattle.field.specs.Arith.{Arith}
 use Rattle.field.specs.Bytes.{byte-arith}
 use Rattle.field.specs.Residues.{residue-arith}
 use Rattle.line.specs.declared.refusal.Cause.{Cause}
 use Rattle.line.specs.declared.refusal.Cause.the-variants.{WrongLetter, NoTab, NoHexDigit, NoLineFeed, OutOfRange, OtherMark, BytesAfter}
-use Rattle.line.specs.declared.refusal.LineFault.{LineFault}
 use Rattle.line.specs.KioskLine.{kiosk-fault}
 use Rattle.pair_key.specs.declared.any_field.FieldName.{FieldName}
 use Rattle.pair_key.specs.declared.any_field.FieldName.the-variants.{Bytes, Residues}

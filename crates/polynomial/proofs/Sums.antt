@@ -1,7 +1,7 @@
 -- Sums, powers and Horner's rule in any commutative ring.
-use mathlib.Core.Path.{_≡_, refl, sym, ap, _∙_, fun-ext}
+use mathlib.Core.Path.{_≡_, sym, ap, _∙_, fun-ext}
 use Prim.Native.Nat.{ℕ, zero, suc}
-use Rattle.field.proofs.Ring.{Ring, add-zero, mul-one, mul-zero}
+use Rattle.field.proofs.Ring.{Ring, mul-one, mul-zero}
 
 module _ {E : Type 0} (R : Ring E) where
   -- the sum of f 0, .., f (n - 1)

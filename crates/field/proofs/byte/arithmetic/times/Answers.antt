@@ -1,6 +1,6 @@
 use mathlib.Core.Path.{_≡_, sym, ap, _∙_}
-use Prim.Native.Nat.{_+_, _*_, _/_, _%_, _^_, _≤_, _<_}
-use native.Mathlib.Nat.{div-one, zero-mul, one-mul, mul-le-mul-right}
+use Prim.Native.Nat.{_*_, _/_, _%_, _^_, _≤_, _<_}
+use native.Mathlib.Nat.{div-one}
 use native.Mathlib.Omega.{arith}
 use lib.Bits.{bitXor, xor-assoc, xor-zero-l, xor-zero-r}
 use Rattle.std.proofs.shelf.Bits.{shr-shr, mul-le, mod-below, shr-le}
