@@ -1,11 +1,13 @@
 -- The codes below the order of a lawful field, each with the proof that it is below, form a ring with laws that ask nothing.
-use mathlib.Core.Path.{_≡_}
+use mathlib.Core.Path.{_≡_, ap}
 use mathlib.Core.HLevel.{Σ-prop-path}
+use mathlib.Core.Logic.{inl, inr, ⊎-elim}
 use Prim.Native.Nat.{ℕ, _<_}
 use native.Mathlib.Bridge.{le-prop}
 use native.Mathlib.Omega.{arith}
+use Rattle.std.proofs.shelf.Tests.{cases-eq}
 use Rattle.field.specs.Arith.{Arith, Laws}
-use Rattle.field.proofs.Ring.{Ring}
+use Rattle.field.proofs.Ring.{Ring, Field}
 
 abbrev pub Code : Arith → Type 0
 Code A = (c : ℕ) × (c < A .order)
@@ -29,4 +31,14 @@ module _ (A : Arith) (L : Laws A) where
     mul-comm = λ x y. same-code A _ _ (L .product-comm (x .0) (y .0) (x .1) (y .1));
     one-mul = λ x. same-code A _ _ (L .product-one (x .0) (x .1));
     mul-add = λ x y z. same-code A _ _ (L .distributes (x .0) (y .0) (z .0) (x .1) (y .1) (z .1));
+  }
+
+  -- and with the inverses a field
+  abbrev pub codes-field : Field (Code A)
+  codes-field = record {
+    ring = codes;
+    zero-or-not = λ x. ⊎-elim (λ e. inl (same-code A x (codes .zero) e)) (λ ne. inr (λ e. ne (ap (λ (c : Code A). c .0) e))) (cases-eq (x .0) 0);
+    inverse = λ x nonzero.
+        let (y, found, below, unit) = L .inverse-else (x .0) (x .1) (λ e. nonzero (same-code A x (codes .zero) e)) in
+        ((y, below), same-code A _ _ unit);
   }

@@ -1,7 +1,11 @@
 pub mod Ring
+pub mod Solve
 pub mod Codes
+pub mod Pairs
+pub mod DoubledLaws
 pub mod Checks
 pub mod Powers
 pub mod Xor
 pub mod Bytes
 pub mod Residues
+pub mod Roots

@@ -1,3 +1,4 @@
 pub mod Arith
 pub mod Bytes
 pub mod Residues
+pub mod Doubled
