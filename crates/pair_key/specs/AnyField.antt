@@ -5,12 +5,13 @@ use Prim.Native.Nat.{ℕ}
 use Rattle.std.specs.declared.option.Option.the-variants.{Some, None}
 use Rattle.field.specs.Arith.{Arith}
 use Rattle.field.specs.Bytes.{byte-arith}
+use Rattle.field.specs.Doubled.{doubled-bytes, doubled-residues}
 use Rattle.field.specs.Residues.{residue-arith}
 use Rattle.line.specs.declared.refusal.Cause.{Cause}
 use Rattle.line.specs.declared.refusal.Cause.the-variants.{WrongLetter, NoTab, NoHexDigit, NoLineFeed, OutOfRange, OtherMark, BytesAfter}
 use Rattle.line.specs.KioskLine.{kiosk-fault}
 use Rattle.pair_key.specs.declared.any_field.FieldName.{FieldName}
-use Rattle.pair_key.specs.declared.any_field.FieldName.the-variants.{Bytes, Residues}
+use Rattle.pair_key.specs.declared.any_field.FieldName.the-variants.{Bytes, Residues, DoubledBytes, DoubledResidues}
 
 abbrev pub names-another : Cause → Bool
 names-another WrongLetter = false
@@ -27,8 +28,15 @@ of-another-field A text = elim (kiosk-fault 1 (A .mark) (A .order) text) [ None 
 
 -- The fields are tried in turn, and the one that finds another's mark leads to the next. The last stands where no field has that mark.
 abbrev pub field-of : List ℕ → Arith
-field-of text = cond (of-another-field byte-arith text) residue-arith byte-arith
+field-of text =
+    cond (of-another-field byte-arith text)
+    (cond (of-another-field residue-arith text)
+    (cond (of-another-field doubled-bytes text) doubled-residues doubled-bytes)
+    residue-arith)
+    byte-arith
 
 abbrev pub arith-of : FieldName → Arith
 arith-of Bytes = byte-arith
 arith-of Residues = residue-arith
+arith-of DoubledBytes = doubled-bytes
+arith-of DoubledResidues = doubled-residues

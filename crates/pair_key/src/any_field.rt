@@ -6,9 +6,13 @@ use crate::report::Failure;
 use crate::report::report;
 use field::byte::Byte;
 use field::byte::arithmetic::ByteField;
+use field::byte::doubling::ByteDoubling;
+use field::doubled::Doubled;
+use field::doubled::arithmetic::DoubledField;
 use field::interface::Field;
 use field::residue::Residue;
 use field::residue::arithmetic::ResidueField;
+use field::residue::doubling::ResidueDoubling;
 use line::kiosk_line::KioskLine;
 use line::number::KioskNumber;
 use line::refusal::Cause;
@@ -19,6 +23,8 @@ use std::alloc::Global;
 enum FieldName {
     Bytes,
     Residues,
+    DoubledBytes,
+    DoubledResidues,
 }
 
 // Whether a reader over this field finds another field's mark.
@@ -38,10 +44,14 @@ fn has_another_mark<F: Field>(text: &[u8]) -> bool
 fn name_field(text: &[u8]) -> FieldName
     ensures { λ r. ⌜ arith-of r ≡ field-of (now (text .entry)) ⌝ }
 {
-    if has_another_mark::<Byte>(text) {
-        FieldName::Residues
-    } else {
+    if !has_another_mark::<Byte>(text) {
         FieldName::Bytes
+    } else if !has_another_mark::<Residue>(text) {
+        FieldName::Residues
+    } else if !has_another_mark::<Doubled<Byte>>(text) {
+        FieldName::DoubledBytes
+    } else {
+        FieldName::DoubledResidues
     }
 }
 
@@ -52,6 +62,8 @@ pub fn report_any(heap: Global, text: &[u8], others: &[KioskNumber]) -> Result<V
     match name_field(text) {
         FieldName::Bytes => report::<Byte>(heap, text, others),
         FieldName::Residues => report::<Residue>(heap, text, others),
+        FieldName::DoubledBytes => report::<Doubled<Byte>>(heap, text, others),
+        FieldName::DoubledResidues => report::<Doubled<Residue>>(heap, text, others),
     }
 }
 
@@ -94,6 +106,26 @@ mod tests {
             rt.alloc(),
             text,
             b"kiosk 256 and kiosk 3 of tour 4294967295: 0000006a 000000fd\n",
+        )
+    }
+
+    #[test]
+    fn doubled_bytes(rt: LibcRuntime) -> Result<(), Fail> {
+        let text = b"k\t00000011\t00000009\t00000001\t00000001\t0000ffff\t000012400000e55a\n";
+        prints(
+            rt.alloc(),
+            text,
+            b"kiosk 65535 and kiosk 3 of tour 9: 000026ae\n",
+        )
+    }
+
+    #[test]
+    fn doubled_residues(rt: LibcRuntime) -> Result<(), Fail> {
+        let text = b"k\t00000012\t00000009\t00000001\t00000001\t00010200\t0000020b0000d5a6\n";
+        prints(
+            rt.alloc(),
+            text,
+            b"kiosk 66048 and kiosk 3 of tour 9: 00007cf9\n",
         )
     }
 

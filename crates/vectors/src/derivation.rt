@@ -2,8 +2,12 @@
 use super::lines::KIOSK_2;
 use field::byte::Byte;
 use field::byte::arithmetic::ByteField;
+use field::byte::doubling::ByteDoubling;
+use field::doubled::Doubled;
+use field::doubled::arithmetic::DoubledField;
 use field::residue::Residue;
 use field::residue::arithmetic::ResidueField;
+use field::residue::doubling::ResidueDoubling;
 use kiosk::derive;
 use line::kiosk_line::KioskHead;
 use line::number::KioskNumber;
@@ -125,4 +129,39 @@ fn a_line_of_full_size() -> Result<(), Fail> {
         Err(Refusal::BufferTooShort),
     )?;
     check(short == [99u32; 15])
+}
+
+// The largest kiosk numbers, over the doubled residues from the coefficients 5, 66,048 and 300 of a table, over the doubled bytes from
+// hex 105, ffff and 203.
+#[test]
+fn over_doubled_fields() -> Result<(), Fail> {
+    let mut key = [7u32; 1];
+    let kiosk = *b"k\t00000012\t00000009\t00000001\t00000001\t00010200\t0000020b0000d5a6\n";
+    let other = *b"k\t00000012\t00000009\t00000001\t00000001\t000101ff\t0000030d0000d47a\n";
+    check_eq(
+        derive::<Doubled<Residue>>(&kiosk, KioskNumber(66_047), &mut key),
+        Ok(1),
+    )?;
+    check(key == [0x8c79])?;
+    check_eq(
+        derive::<Doubled<Residue>>(&other, KioskNumber(66_048), &mut key),
+        Ok(1),
+    )?;
+    check(key == [0x8c79])?;
+    check_eq(
+        derive::<Doubled<Residue>>(&other, KioskNumber(66_049), &mut key),
+        Err(Refusal::NoSuchKiosk),
+    )?;
+    let kiosk = *b"k\t00000011\t00000009\t00000001\t00000001\t0000ffff\t000012400000e55a\n";
+    let other = *b"k\t00000011\t00000009\t00000001\t00000001\t0000fffe\t0000edbf0000e759\n";
+    check_eq(
+        derive::<Doubled<Byte>>(&kiosk, KioskNumber(0xfffe), &mut key),
+        Ok(1),
+    )?;
+    check(key == [0x7d3c])?;
+    check_eq(
+        derive::<Doubled<Byte>>(&other, KioskNumber(0xffff), &mut key),
+        Ok(1),
+    )?;
+    check(key == [0x7d3c])
 }

@@ -15,7 +15,7 @@ mod refusals;
 fn count() -> usize
     ensures { λ r. ⌜ r ≡ length examples ⌝ }
 {
-    5
+    8
 }
 
 // The number of examples in the table, every one of which holds.

@@ -1,9 +1,13 @@
 // Kiosk lines: written, read back, cut short and damaged.
 use field::byte::Byte;
 use field::byte::arithmetic::ByteField;
+use field::byte::doubling::ByteDoubling;
+use field::doubled::Doubled;
+use field::doubled::arithmetic::DoubledField;
 use field::interface::Field;
 use field::residue::Residue;
 use field::residue::arithmetic::ResidueField;
+use field::residue::doubling::ResidueDoubling;
 use line::kiosk_line::KioskHead;
 use line::kiosk_line::KioskHeadDebug;
 use line::kiosk_line::KioskHeadPartialEq;
@@ -32,9 +36,13 @@ fn kiosk_2() -> KioskHead {
     }
 }
 
-fn read(text: &[u8]) -> Result<KioskHead, LineFault> {
-    let line = KioskLine::read(1, Residue::mark(), Residue::order(), text)?;
+fn read_over<F: Field>(text: &[u8]) -> Result<KioskHead, LineFault> {
+    let line = KioskLine::read(1, F::mark(), F::order(), text)?;
     Ok(line.head)
+}
+
+fn read(text: &[u8]) -> Result<KioskHead, LineFault> {
+    read_over::<Residue>(text)
 }
 
 fn fault(place: usize, cause: Cause) -> Result<KioskHead, LineFault> {
@@ -141,6 +149,45 @@ fn at_the_edge_of_the_field() -> Result<(), Fail> {
     check_eq(read(&text), fault(47, Cause::OutOfRange))?;
     text[45] = b'1';
     check_eq(read(&text), fault(38, Cause::OutOfRange))
+}
+
+// Codes and a kiosk number up to 66,048, which is hex 10200.
+#[test]
+fn at_the_edge_of_the_doubled_residues() -> Result<(), Fail> {
+    let mut text = *b"k\t00000012\t00000009\t00000001\t00000001\t00010200\t0001020000010200\n";
+    check(read_over::<Doubled<Residue>>(&text).is_ok())?;
+    check_eq(read(&text), fault(2, Cause::OtherMark))?;
+    text[62] = b'1';
+    check_eq(
+        read_over::<Doubled<Residue>>(&text),
+        fault(55, Cause::OutOfRange),
+    )?;
+    text[54] = b'1';
+    check_eq(
+        read_over::<Doubled<Residue>>(&text),
+        fault(47, Cause::OutOfRange),
+    )?;
+    text[45] = b'1';
+    check_eq(
+        read_over::<Doubled<Residue>>(&text),
+        fault(38, Cause::OutOfRange),
+    )
+}
+
+// Codes and a kiosk number up to 65,535, which is hex ffff.
+#[test]
+fn at_the_edge_of_the_doubled_bytes() -> Result<(), Fail> {
+    let text = *b"k\t00000011\t00000009\t00000001\t00000001\t0000ffff\t0000ffff0000ffff\n";
+    check(read_over::<Doubled<Byte>>(&text).is_ok())?;
+    check_eq(
+        read_over::<Doubled<Residue>>(&text),
+        fault(2, Cause::OtherMark),
+    )?;
+    let text = *b"k\t00000011\t00000009\t00000001\t00000001\t0000ffff\t0000ffff00010000\n";
+    check_eq(
+        read_over::<Doubled<Byte>>(&text),
+        fault(55, Cause::OutOfRange),
+    )
 }
 
 // A value is judged before the byte behind it, and the first fault from the left is named.
