@@ -20,16 +20,18 @@ fn lower_order<F: Doubling>() -> u32
     F::order() as u32
 }
 
-// The parts of an element: they are those of its code.
-fn parts<F: Doubling>(x: Doubled<F>) -> (F, F)
-    ensures low { λ r. ⌜ F·Field .code (r .0) ≡ low (F·Field .arith) (doubled-code (F·Field .arith) (F·Field .code) x) ⌝ }
-    ensures high { λ r. ⌜ F·Field .code (r .1) ≡ high (F·Field .arith) (doubled-code (F·Field .arith) (F·Field .code) x) ⌝ }
-{
-    F::laws();
-    (x.low, x.high)
+impl<F: Doubling> Doubled<F> {
+    // The parts a and b of a + b·w: they are those of its code.
+    fn parts(self) -> (F, F)
+        ensures low { λ r. ⌜ F·Field .code (r .0) ≡ low (F·Field .arith) (doubled-code (F·Field .arith) (F·Field .code) self) ⌝ }
+        ensures high { λ r. ⌜ F·Field .code (r .1) ≡ high (F·Field .arith) (doubled-code (F·Field .arith) (F·Field .code) self) ⌝ }
+    {
+        F::laws();
+        (self.low, self.high)
+    }
 }
 
-// a·a + a·b·d - b·b·e
+// The norm a·a + a·b·d - b·b·e of a + b·w.
 fn norm<F: Doubling>(a: F, b: F) -> F
     ensures { λ r. ⌜ F·Field .code r ≡ norm (F·Field .arith) (F·Doubling .d) (F·Doubling .e) (F·Field .code a) (F·Field .code b) ⌝ }
 {
@@ -69,8 +71,8 @@ pub impl<F: Doubling> Field for Doubled<F> as DoubledField {
     }
 
     fn sum(self, other: Doubled<F>) -> Doubled<F> {
-        let (a, b) = parts(self);
-        let (f, g) = parts(other);
+        let (a, b) = self.parts();
+        let (f, g) = other.parts();
         Doubled {
             low: a.sum(f),
             high: b.sum(g),
@@ -78,7 +80,7 @@ pub impl<F: Doubling> Field for Doubled<F> as DoubledField {
     }
 
     fn negative(self) -> Doubled<F> {
-        let (a, b) = parts(self);
+        let (a, b) = self.parts();
         Doubled {
             low: a.negative(),
             high: b.negative(),
@@ -86,8 +88,8 @@ pub impl<F: Doubling> Field for Doubled<F> as DoubledField {
     }
 
     fn product(self, other: Doubled<F>) -> Doubled<F> {
-        let (a, b) = parts(self);
-        let (f, g) = parts(other);
+        let (a, b) = self.parts();
+        let (f, g) = other.parts();
         let (d, e) = F::coefficients();
         let bg = b.product(g);
         Doubled {
@@ -97,7 +99,7 @@ pub impl<F: Doubling> Field for Doubled<F> as DoubledField {
     }
 
     fn inverse(self) -> Option<Doubled<F>> {
-        let (a, b) = parts(self);
+        let (a, b) = self.parts();
         let (d, _) = F::coefficients();
         match norm(a, b).inverse() {
             Some(n) => Some(Doubled {
