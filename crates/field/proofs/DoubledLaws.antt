@@ -20,14 +20,14 @@ use Rattle.field.proofs.Solve.{#0, ring}
 
 -- A pair of codes and the code of the pair.
 module _ (A : Arith) (least : 2 ≤ A .order) where
-  some : 0 < A .order
-  some = omega (arith, least)
+  positive : 0 < A .order
+  positive = omega (arith, least)
 
   pub low-pair : (a b : ℕ) → a < A .order → low A (pair A a b) ≡ a
   low-pair a b h = add-mul-mod-self-left a (A .order) b ∙ mod-eq-of-lt h
 
   pub high-pair : (a b : ℕ) → a < A .order → high A (pair A a b) ≡ b
-  high-pair a b h = add-mul-div-left a b some ∙ ap (λ n. n + b) (div-eq-of-lt h) ∙ zero-add b
+  high-pair a b h = add-mul-div-left a b positive ∙ ap (λ n. n + b) (div-eq-of-lt h) ∙ zero-add b
 
   pub pair-parts : (x : ℕ) → pair A (low A x) (high A x) ≡ x
   pair-parts x = mod-add-div x (A .order)
@@ -36,17 +36,17 @@ module _ (A : Arith) (least : 2 ≤ A .order) where
   pair-below a b ha hb = rw (add-comm a (A .order * b) ∙ ap (λ n. n + a) (mul-comm (A .order) b)) (digits-lt hb ha)
 
   pub low-below : (x : ℕ) → low A x < A .order
-  low-below x = mod-lt x some
+  low-below x = mod-lt x positive
 
   pub high-below : (x : ℕ) → x < A .order * A .order → high A x < A .order
-  high-below x h = div-lt-iff-lt-mul some .1 h
+  high-below x h = div-lt-iff-lt-mul positive .1 h
 
   -- a number is a code of the doubled field where its high part is one of the lower field
   pub ltb-high : (x : ℕ) → ltb (high A x) (A .order) ≡ ltb x (A .order * A .order)
   ltb-high x =
       ⊎-elim
       (λ below. lt-ltb (high A x) (A .order) (high-below x below) ∙ sym (lt-ltb x (A .order * A .order) below))
-      (λ above. le-ltb (high A x) (A .order) (le-div-iff-mul-le some .1 above) ∙ sym (le-ltb x (A .order * A .order) above))
+      (λ above. le-ltb (high A x) (A .order) (le-div-iff-mul-le positive .1 above) ∙ sym (le-ltb x (A .order * A .order) above))
       (cases-lt x (A .order * A .order))
 
 module _ (A : Arith) (L : Laws A) (d e : ℕ) (hd : d < A .order) (he : e < A .order) where
@@ -99,24 +99,18 @@ module _ (A : Arith) (L : Laws A) (d e : ℕ) (hd : d < A .order) (he : e < A .o
   w-code : of (w K δ ε) ≡ A .order
   w-code = zero-add (A .order * 1) ∙ mul-one (A .order)
 
-  -- The operations take sums and products of pairs for codes: x stands for parts x.
-  sum-left : (p q : Pair) → of (P .add (parts (of p) (of-below p)) q) ≡ of (P .add p q)
-  sum-left p q = ap (λ r. of (P .add r q)) (parts-of p)
+  -- an operation on the parts of a pair's code is one on the pair
+  left : (op : Pair → Pair → Pair) (p q : Pair) → of (op (parts (of p) (of-below p)) q) ≡ of (op p q)
+  left op p q = ap (λ r. of (op r q)) (parts-of p)
 
-  sum-right : (p q : Pair) → of (P .add p (parts (of q) (of-below q))) ≡ of (P .add p q)
-  sum-right p q = ap (λ r. of (P .add p r)) (parts-of q)
-
-  product-left : (p q : Pair) → of (P .mul (parts (of p) (of-below p)) q) ≡ of (P .mul p q)
-  product-left p q = ap (λ r. of (P .mul r q)) (parts-of p)
-
-  product-right : (p q : Pair) → of (P .mul p (parts (of q) (of-below q))) ≡ of (P .mul p q)
-  product-right p q = ap (λ r. of (P .mul p r)) (parts-of q)
+  right : (op : Pair → Pair → Pair) (p q : Pair) → of (op p (parts (of q) (of-below q))) ≡ of (op p q)
+  right op p q = ap (λ r. of (op p r)) (parts-of q)
 
   sum-of : {x y : ℕ} (p q : Pair) → of p ≡ x → of q ≡ y → of (P .add p q) ≡ D .sum x y
-  sum-of {x} {y} p q ex ey = sym (sum-left p (parts (of q) (of-below q)) ∙ sum-right p q) ∙ ap (λ n. D .sum n (of q)) ex ∙ ap (D .sum x) ey
+  sum-of {x} {y} p q ex ey = sym (left (P .add) p (parts (of q) (of-below q)) ∙ right (P .add) p q) ∙ ap (λ n. D .sum n (of q)) ex ∙ ap (D .sum x) ey
 
   product-of : {x y : ℕ} (p q : Pair) → of p ≡ x → of q ≡ y → of (P .mul p q) ≡ D .product x y
-  product-of {x} {y} p q ex ey = sym (product-left p (parts (of q) (of-below q)) ∙ product-right p q) ∙ ap (λ n. D .product n (of q)) ex ∙ ap (D .product x) ey
+  product-of {x} {y} p q ex ey = sym (left (P .mul) p (parts (of q) (of-below q)) ∙ right (P .mul) p q) ∙ ap (λ n. D .product n (of q)) ex ∙ ap (D .product x) ey
 
   pub doubled-extends : Extends A d e
   doubled-extends =
@@ -157,7 +151,7 @@ module _ (A : Arith) (L : Laws A) (d e : ℕ) (hd : d < A .order) (he : e < A .o
     over-unit : (x : ℕ) (h : x < D .order) (n : Code A) → K .mul (norm K δ ε (parts x h .0) (parts x h .1)) n ≡ K .one → D .product x (of (over K δ ε (parts x h .0) (parts x h .1) n)) ≡ 1
     over-unit x h n unit =
         let (a, b) = parts x h in
-        product-right (a, b) (over K δ ε a b n) ∙ ap of (over-inverts K δ ε a b n unit) ∙ one-code
+        right (P .mul) (a, b) (over K δ ε a b n) ∙ ap of (over-inverts K δ ε a b n unit) ∙ one-code
 
     inverse-else : (x : ℕ) → x < D .order → (x ≡ 0 → ⊥) → (y : ℕ) × (D .inverse x ≡ Some y) × (y < D .order) × (D .product x y ≡ 1)
     inverse-else x h nonzero =
@@ -179,24 +173,24 @@ module _ (A : Arith) (L : Laws A) (d e : ℕ) (hd : d < A .order) (he : e < A .o
           let X = parts x hx in
           let Y = parts y hy in
           let Z = parts z hz in
-          sum-left (P .add X Y) Z ∙ ap of (P .add-assoc X Y Z) ∙ sym (sum-right X (P .add Y Z));
+          left (P .add) (P .add X Y) Z ∙ ap of (P .add-assoc X Y Z) ∙ sym (right (P .add) X (P .add Y Z));
       sum-comm = λ x y hx hy. ap of (P .add-comm (parts x hx) (parts y hy));
-      sum-zero = λ x h. ap (λ n. D .sum n x) (sym zero-code) ∙ sum-left (P .zero) (parts x h) ∙ ap of (P .zero-add (parts x h)) ∙ of-parts x h;
-      sum-negative = λ x h. sum-right (parts x h) (P .neg (parts x h)) ∙ ap of (P .add-neg (parts x h)) ∙ zero-code;
+      sum-zero = λ x h. ap (λ n. D .sum n x) (sym zero-code) ∙ left (P .add) (P .zero) (parts x h) ∙ ap of (P .zero-add (parts x h)) ∙ of-parts x h;
+      sum-negative = λ x h. right (P .add) (parts x h) (P .neg (parts x h)) ∙ ap of (P .add-neg (parts x h)) ∙ zero-code;
       product-assoc = λ x y z hx hy hz.
           let X = parts x hx in
           let Y = parts y hy in
           let Z = parts z hz in
-          product-left (P .mul X Y) Z ∙ ap of (P .mul-assoc X Y Z) ∙ sym (product-right X (P .mul Y Z));
+          left (P .mul) (P .mul X Y) Z ∙ ap of (P .mul-assoc X Y Z) ∙ sym (right (P .mul) X (P .mul Y Z));
       product-comm = λ x y hx hy. ap of (P .mul-comm (parts x hx) (parts y hy));
-      product-one = λ x h. ap (λ n. D .product n x) (sym one-code) ∙ product-left (P .one) (parts x h) ∙ ap of (P .one-mul (parts x h)) ∙ of-parts x h;
+      product-one = λ x h. ap (λ n. D .product n x) (sym one-code) ∙ left (P .mul) (P .one) (parts x h) ∙ ap of (P .one-mul (parts x h)) ∙ of-parts x h;
       distributes = λ x y z hx hy hz.
           let X = parts x hx in
           let Y = parts y hy in
           let Z = parts z hz in
-          product-right X (P .add Y Z)
+          right (P .mul) X (P .add Y Z)
           ∙ ap of (P .mul-add X Y Z)
-          ∙ sym (sum-left (P .mul X Y) (parts (of (P .mul X Z)) (of-below (P .mul X Z))) ∙ sum-right (P .mul X Y) (P .mul X Z));
+          ∙ sym (left (P .add) (P .mul X Y) (parts (of (P .mul X Z)) (of-below (P .mul X Z))) ∙ right (P .add) (P .mul X Y) (P .mul X Z));
       inverse-zero = inverse-zero;
       inverse-else = inverse-else;
     }

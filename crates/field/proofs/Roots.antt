@@ -1,6 +1,6 @@
 -- That a field has no root of z·z = d·z + e, by a test of every code.
 use mathlib.Core.Path.{_≡_, refl}
-use mathlib.Core.Bool.{Bool, true, false, not}
+use mathlib.Core.Bool.{Bool, true, not}
 use Prim.Native.Nat.{ℕ}
 use lib.Dec.{eqb}
 use Rattle.std.proofs.shelf.Tests.{true≢false, eq-eqb, not-from-true}

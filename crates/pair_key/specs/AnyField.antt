@@ -26,14 +26,13 @@ names-another BytesAfter = false
 abbrev pub of-another-field : Arith → List ℕ → Bool
 of-another-field A text = elim (kiosk-fault 1 (A .mark) (A .order) text) [ None ↦ false | Some fault ↦ names-another (fault .cause) ]
 
--- The fields are tried in turn, and the one that finds another's mark leads to the next. The last stands where no field has that mark.
+-- this field, or where it finds another's mark, the next
+abbrev pub tried : Arith → List ℕ → Arith → Arith
+tried A text next = cond (of-another-field A text) next A
+
+-- The fields are tried in turn. The last stands where no field has that mark.
 abbrev pub field-of : List ℕ → Arith
-field-of text =
-    cond (of-another-field byte-arith text)
-    (cond (of-another-field residue-arith text)
-    (cond (of-another-field doubled-bytes text) doubled-residues doubled-bytes)
-    residue-arith)
-    byte-arith
+field-of text = tried byte-arith text (tried residue-arith text (tried doubled-bytes text doubled-residues))
 
 abbrev pub arith-of : FieldName → Arith
 arith-of Bytes = byte-arith
