@@ -56,8 +56,8 @@ module _ (A : Arith) (L : Laws A) (d e : ℕ) (hd : d < A .order) (he : e < A .o
   abbrev D : Arith
   D = doubled A d e
 
-  abbrev K : Ring (Code A)
-  K = codes A L
+  abbrev R : Ring (Code A)
+  R = codes A L
 
   abbrev δ : Code A
   δ = (d, hd)
@@ -66,7 +66,7 @@ module _ (A : Arith) (L : Laws A) (d e : ℕ) (hd : d < A .order) (he : e < A .o
   ε = (e, he)
 
   abbrev P : Ring Pair
-  P = pairs K δ ε
+  P = pairs R δ ε
 
   abbrev of : Pair → ℕ
   of p = pair A (p .0 .0) (p .1 .0)
@@ -87,16 +87,16 @@ module _ (A : Arith) (L : Laws A) (d e : ℕ) (hd : d < A .order) (he : e < A .o
       ap {A = Code A} {B = Pair} (λ c. (c, parts (of p) (of-below p) .1)) (same-code A _ _ (low-pair A (L .order-least) a b ha))
       ∙ ap {A = Code A} {B = Pair} (λ c. (p .0, c)) (same-code A _ _ (high-pair A (L .order-least) a b ha))
 
-  constant-code : (a : Code A) → of (constant K δ ε a) ≡ a .0
+  constant-code : (a : Code A) → of (constant R δ ε a) ≡ a .0
   constant-code a = ap (λ n. a .0 + n) (mul-zero (A .order)) ∙ add-zero (a .0)
 
   zero-code : of (P .zero) ≡ 0
-  zero-code = constant-code (K .zero)
+  zero-code = constant-code (R .zero)
 
   one-code : of (P .one) ≡ 1
-  one-code = constant-code (K .one)
+  one-code = constant-code (R .one)
 
-  w-code : of (w K δ ε) ≡ A .order
+  w-code : of (w R δ ε) ≡ A .order
   w-code = zero-add (A .order * 1) ∙ mul-one (A .order)
 
   -- an operation on the parts of a pair's code is one on the pair
@@ -114,52 +114,52 @@ module _ (A : Arith) (L : Laws A) (d e : ℕ) (hd : d < A .order) (he : e < A .o
 
   pub doubled-extends : Extends A d e
   doubled-extends =
-      let c = constant K δ ε in
-      let W = w K δ ε in
+      let c = constant R δ ε in
+      let W = w R δ ε in
       record {
         lower-sum = λ a b ha hb.
             sym (sum-of (c (a, ha)) (c (b, hb)) (constant-code (a, ha)) (constant-code (b, hb)))
-            ∙ ap of (constant-sum K δ ε (a, ha) (b, hb))
-            ∙ constant-code (K .add (a, ha) (b, hb));
+            ∙ ap of (constant-sum R δ ε (a, ha) (b, hb))
+            ∙ constant-code (R .add (a, ha) (b, hb));
         lower-product = λ a b ha hb.
             sym (product-of (c (a, ha)) (c (b, hb)) (constant-code (a, ha)) (constant-code (b, hb)))
-            ∙ ap of (constant-product K δ ε (a, ha) (b, hb))
-            ∙ constant-code (K .mul (a, ha) (b, hb));
+            ∙ ap of (constant-product R δ ε (a, ha) (b, hb))
+            ∙ constant-code (R .mul (a, ha) (b, hb));
         square =
             sym (product-of W W w-code w-code)
-            ∙ ap of (square K δ ε)
+            ∙ ap of (square R δ ε)
             ∙ sum-of (P .mul (c δ) W) (c ε) (product-of (c δ) W (constant-code δ) w-code) (constant-code ε);
         element = λ a b ha hb.
             sym (sum-of (c (a, ha)) (P .mul (c (b, hb)) W) (constant-code (a, ha)) (product-of (c (b, hb)) W (constant-code (b, hb)) w-code))
-            ∙ ap of (element K δ ε (a, ha) (b, hb));
+            ∙ ap of (element R δ ε (a, ha) (b, hb));
       }
 
   inverse-zero : D .inverse 0 ≡ None
   inverse-zero =
       ap (D .inverse) (sym zero-code)
       ∙ ap (λ (p : Pair). pair-inverse A d e (p .0 .0) (p .1 .0)) (parts-of (P .zero))
-      ∙ ap (λ (n : Code A). mapped (pair-over A d e 0 0) (A .inverse (n .0))) (ring K (δ ∷ ε ∷ []) (norm-of #0 #0) #0 refl)
+      ∙ ap (λ (n : Code A). mapped (pair-over A d e 0 0) (A .inverse (n .0))) (ring R (δ ∷ ε ∷ []) (norm-of #0 #0) #0 refl)
       ∙ ap (mapped (pair-over A d e 0 0)) (L .inverse-zero)
 
   module _ (rootless : Rootless A d e) where
-    nonzero-norm : (p : Pair) → (of p ≡ 0 → ⊥) → norm K δ ε (p .0) (p .1) .0 ≡ 0 → ⊥
+    nonzero-norm : (p : Pair) → (of p ≡ 0 → ⊥) → norm R δ ε (p .0) (p .1) .0 ≡ 0 → ⊥
     nonzero-norm (a, b) nonzero none =
-        let no-root = λ (z : Code A) (root : K .mul z z ≡ K .add (K .mul δ z) ε). rootless (z .0) (z .1) (ap (λ (c : Code A). c .0) root) in
-        let (a-zero, b-zero) = norm-zero (codes-field A L) δ ε no-root a b (same-code A (norm K δ ε a b) (K .zero) none) in
-        nonzero (ap (λ c. of (c, b)) a-zero ∙ ap (λ c. of (K .zero, c)) b-zero ∙ zero-code)
+        let no-root = λ (z : Code A) (root : R .mul z z ≡ R .add (R .mul δ z) ε). rootless (z .0) (z .1) (ap (λ (c : Code A). c .0) root) in
+        let (a-zero, b-zero) = norm-zero (codes-field A L) δ ε no-root a b (same-code A (norm R δ ε a b) (R .zero) none) in
+        nonzero (ap (λ c. of (c, b)) a-zero ∙ ap (λ c. of (R .zero, c)) b-zero ∙ zero-code)
 
-    over-unit : (x : ℕ) (h : x < D .order) (n : Code A) → K .mul (norm K δ ε (parts x h .0) (parts x h .1)) n ≡ K .one → D .product x (of (over K δ ε (parts x h .0) (parts x h .1) n)) ≡ 1
+    over-unit : (x : ℕ) (h : x < D .order) (n : Code A) → R .mul (norm R δ ε (parts x h .0) (parts x h .1)) n ≡ R .one → D .product x (of (over R δ ε (parts x h .0) (parts x h .1) n)) ≡ 1
     over-unit x h n unit =
         let (a, b) = parts x h in
-        right (P .mul) (a, b) (over K δ ε a b n) ∙ ap of (over-inverts K δ ε a b n unit) ∙ one-code
+        right (P .mul) (a, b) (over R δ ε a b n) ∙ ap of (over-inverts R δ ε a b n unit) ∙ one-code
 
     inverse-else : (x : ℕ) → x < D .order → (x ≡ 0 → ⊥) → (y : ℕ) × (D .inverse x ≡ Some y) × (y < D .order) × (D .product x y ≡ 1)
     inverse-else x h nonzero =
         let (a, b) = parts x h in
-        let (N, N-below) = norm K δ ε a b in
+        let (N, N-below) = norm R δ ε a b in
         let (n, found, below, unit) = L .inverse-else N N-below (nonzero-norm (a, b) (λ none. nonzero (sym (of-parts x h) ∙ none))) in
-        let y = over K δ ε a b (n, below) in
-        (of y, ap (mapped (pair-over A d e (a .0) (b .0))) found, of-below y, over-unit x h (n, below) (same-code A (K .mul (N, N-below) (n, below)) (K .one) unit))
+        let y = over R δ ε a b (n, below) in
+        (of y, ap (mapped (pair-over A d e (a .0) (b .0))) found, of-below y, over-unit x h (n, below) (same-code A (R .mul (N, N-below) (n, below)) (R .one) unit))
 
     pub doubled-laws : A .order ≤ 65536 → A .mark < 16 → Laws D
     doubled-laws order mark = record {

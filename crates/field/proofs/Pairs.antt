@@ -27,6 +27,9 @@ Z = (var 6, var 7)
 abbrev sum : Exprs → Exprs → Exprs
 sum (a, b) (f, g) = (a ⊕ f, b ⊕ g)
 
+abbrev negative : Exprs → Exprs
+negative (a, b) = (⊖ a, ⊖ b)
+
 abbrev product : Exprs → Exprs → Exprs
 product (a, b) (f, g) = (a ⊗ f ⊕ b ⊗ g ⊗ E, a ⊗ g ⊕ b ⊗ f ⊕ b ⊗ g ⊗ D)
 
@@ -44,24 +47,28 @@ module _ {C : Type 0} (R : Ring C) (d e : C) where
       ap {A = C} {B = C × C} (λ a. (a, value R values (p .1))) (ring R values (p .0) (q .0) low)
       ∙ ap {A = C} {B = C × C} (λ b. (value R values (q .0), b)) (ring R values (p .1) (q .1) high)
 
+  -- the values of the variables: d, e, and the parts of three pairs
+  abbrev pub values : C × C → C × C → C × C → List C
+  values x y z = d ∷ e ∷ x .0 ∷ x .1 ∷ y .0 ∷ y .1 ∷ z .0 ∷ z .1 ∷ []
+
+  abbrev pub none : C × C
+  none = (R .zero, R .zero)
+
   abbrev pub pairs : Ring (C × C)
   pairs = record {
-    zero = (R .zero, R .zero);
+    zero = none;
     one = (R .one, R .zero);
-    add = λ x y. (R .add (x .0) (y .0), R .add (x .1) (y .1));
-    mul = λ x y. (
-      R .add (R .mul (x .0) (y .0)) (R .mul (R .mul (x .1) (y .1)) e),
-      R .add (R .add (R .mul (x .0) (y .1)) (R .mul (x .1) (y .0))) (R .mul (R .mul (x .1) (y .1)) d),
-    );
-    neg = λ x. (R .neg (x .0), R .neg (x .1));
-    add-assoc = λ x y z. solve (d ∷ e ∷ x .0 ∷ x .1 ∷ y .0 ∷ y .1 ∷ z .0 ∷ z .1 ∷ []) (sum (sum X Y) Z) (sum X (sum Y Z)) refl refl;
-    add-comm = λ x y. solve (d ∷ e ∷ x .0 ∷ x .1 ∷ y .0 ∷ y .1 ∷ []) (sum X Y) (sum Y X) refl refl;
-    zero-add = λ x. solve (d ∷ e ∷ x .0 ∷ x .1 ∷ []) (sum (#0, #0) X) X refl refl;
-    add-neg = λ x. solve (d ∷ e ∷ x .0 ∷ x .1 ∷ []) (sum X (⊖ X .0, ⊖ X .1)) (#0, #0) refl refl;
-    mul-assoc = λ x y z. solve (d ∷ e ∷ x .0 ∷ x .1 ∷ y .0 ∷ y .1 ∷ z .0 ∷ z .1 ∷ []) (product (product X Y) Z) (product X (product Y Z)) refl refl;
-    mul-comm = λ x y. solve (d ∷ e ∷ x .0 ∷ x .1 ∷ y .0 ∷ y .1 ∷ []) (product X Y) (product Y X) refl refl;
-    one-mul = λ x. solve (d ∷ e ∷ x .0 ∷ x .1 ∷ []) (product (#1, #0) X) X refl refl;
-    mul-add = λ x y z. solve (d ∷ e ∷ x .0 ∷ x .1 ∷ y .0 ∷ y .1 ∷ z .0 ∷ z .1 ∷ []) (product X (sum Y Z)) (sum (product X Y) (product X Z)) refl refl;
+    add = λ x y. both (values x y none) (sum X Y);
+    mul = λ x y. both (values x y none) (product X Y);
+    neg = λ x. both (values x none none) (negative X);
+    add-assoc = λ x y z. solve (values x y z) (sum (sum X Y) Z) (sum X (sum Y Z)) refl refl;
+    add-comm = λ x y. solve (values x y none) (sum X Y) (sum Y X) refl refl;
+    zero-add = λ x. solve (values x none none) (sum (#0, #0) X) X refl refl;
+    add-neg = λ x. solve (values x none none) (sum X (negative X)) (#0, #0) refl refl;
+    mul-assoc = λ x y z. solve (values x y z) (product (product X Y) Z) (product X (product Y Z)) refl refl;
+    mul-comm = λ x y. solve (values x y none) (product X Y) (product Y X) refl refl;
+    one-mul = λ x. solve (values x none none) (product (#1, #0) X) X refl refl;
+    mul-add = λ x y z. solve (values x y z) (product X (sum Y Z)) (sum (product X Y) (product X Z)) refl refl;
   }
 
   -- an element of the ring below, and w
@@ -84,7 +91,7 @@ module _ {C : Type 0} (R : Ring C) (d e : C) where
   element a b = solve (d ∷ e ∷ a ∷ b ∷ []) (sum (X .0, #0) (product (X .1, #0) (#0, #1))) X refl refl
 
   abbrev pub norm : C → C → C
-  norm a b = R .add (R .add (R .mul a a) (R .mul (R .mul a b) d)) (R .neg (R .mul (R .mul b b) e))
+  norm a b = value R (values (a, b) none none) (norm-of (X .0) (X .1))
 
   abbrev pub over : C → C → C → C × C
   over a b n = (R .mul (R .add a (R .mul b d)) n, R .neg (R .mul b n))

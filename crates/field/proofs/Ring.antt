@@ -1,4 +1,4 @@
--- A commutative ring over any type, with laws that ask nothing, and small consequences of them.
+-- A commutative ring and a field over any type, with laws that ask nothing, and small consequences of them.
 use mathlib.Core.Path.{_≡_, sym, ap, _∙_}
 use mathlib.Core.Logic.{_⊎_, inl, inr, ⊎-elim}
 

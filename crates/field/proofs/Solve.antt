@@ -27,7 +27,7 @@ record Term : Type 0 where
   minus : ℕ
   vars : List ℕ
 
--- The normal form of an expression: its terms in order, each product of variables once.
+-- An expression multiplied out: its terms in order, each product of variables once.
 
 abbrev put : ℕ → List ℕ → List ℕ
 put v [] = v ∷ []
@@ -94,7 +94,7 @@ abbrev balanced : List Term → Bool
 balanced [] = true
 balanced (t ∷ ts) = eqb (t .plus) (t .minus) && balanced ts
 
--- whether two expressions have the same normal form: nothing is left of their difference
+-- whether nothing is left of the difference of two expressions
 abbrev pub match : Expr → Expr → Bool
 match a b = balanced (terms (a ⊕ ⊖ b))
 

@@ -4,8 +4,6 @@ use Prim.Native.Nat.{ℕ, _+_, _*_, _/_, _%_, _<_}
 use Rattle.std.specs.Options.{mapped}
 use Rattle.std.specs.declared.option.Option.{Option}
 use Rattle.field.specs.Arith.{Arith}
-use Rattle.field.specs.Bytes.{byte-arith}
-use Rattle.field.specs.Residues.{residue-arith}
 use Rattle.field.specs.declared.doubled.Doubled.{Doubled}
 
 -- no element z of the lower field has z·z = d·z + e
@@ -70,9 +68,3 @@ module _ (A : Arith) (d e : ℕ) where
     pub lower-product : (a b : ℕ) → a < A .order → b < A .order → doubled .product a b ≡ a ⊗ b
     pub square : doubled .product (A .order) (A .order) ≡ doubled .sum (doubled .product d (A .order)) e
     pub element : (a b : ℕ) → a < A .order → b < A .order → doubled .sum a (doubled .product b (A .order)) ≡ pair A a b
-
-abbrev pub doubled-bytes : Arith
-doubled-bytes = doubled byte-arith 1 0x20
-
-abbrev pub doubled-residues : Arith
-doubled-residues = doubled residue-arith 0 3

@@ -1,11 +1,11 @@
--- Which field a line is read over: that of its mark.
+-- Which field a line is read over: that of its mark, where there is one.
 use mathlib.Core.Bool.{Bool, true, false, cond}
 use mathlib.Core.List.{List}
 use Prim.Native.Nat.{ℕ}
 use Rattle.std.specs.declared.option.Option.the-variants.{Some, None}
 use Rattle.field.specs.Arith.{Arith}
 use Rattle.field.specs.Bytes.{byte-arith}
-use Rattle.field.specs.Doubled.{doubled-bytes, doubled-residues}
+use Rattle.field.specs.DoubledFields.{doubled-bytes, doubled-residues}
 use Rattle.field.specs.Residues.{residue-arith}
 use Rattle.line.specs.declared.refusal.Cause.{Cause}
 use Rattle.line.specs.declared.refusal.Cause.the-variants.{WrongLetter, NoTab, NoHexDigit, NoLineFeed, OutOfRange, OtherMark, BytesAfter}

@@ -1,4 +1,4 @@
-// The report over whichever field the line's mark names.
+// The report over the field of a line's mark.
 ghost use mathlib.Core.Path.{_≡_};
 ghost use Rattle.pair_key.specs.AnyField.{of-another-field, field-of, arith-of};
 ghost use Rattle.pair_key.specs.Report.{Reported};
@@ -40,7 +40,7 @@ fn has_another_mark<F: Field>(text: &[u8]) -> bool
     }
 }
 
-// The field that the line's mark names.
+// The first field whose reader does not find another's mark; the last where there is none.
 fn name_field(text: &[u8]) -> FieldName
     ensures { λ r. ⌜ arith-of r ≡ field-of (now (text .entry)) ⌝ }
 {

@@ -4,7 +4,7 @@ use mathlib.Core.List.{List, [], _∷_, map}
 use Prim.Native.Nat.{ℕ}
 use Rattle.std.specs.Vec.{listOf}
 use Rattle.field.specs.Bytes.{byte-arith}
-use Rattle.field.specs.Doubled.{doubled-bytes, doubled-residues}
+use Rattle.field.specs.DoubledFields.{doubled-bytes, doubled-residues}
 use Rattle.field.specs.Residues.{residue-arith}
 use Rattle.polynomial.specs.PairKey.{pair-key}
 

@@ -131,8 +131,8 @@ fn a_line_of_full_size() -> Result<(), Fail> {
     check(short == [99u32; 15])
 }
 
-// The largest kiosk numbers, over the doubled residues from the coefficients 5, 66,048 and 300 of a table, over the doubled bytes from
-// hex 105, ffff and 203.
+// The largest kiosk numbers. The share of kiosk u is 5 + 66048·u and 66048 + 300·u over the doubled residues, and in hex 105 + ffff·u and
+// ffff + 203·u over the doubled bytes.
 #[test]
 fn over_doubled_fields() -> Result<(), Fail> {
     let mut key = [7u32; 1];
@@ -163,5 +163,9 @@ fn over_doubled_fields() -> Result<(), Fail> {
         derive::<Doubled<Byte>>(&other, KioskNumber(0xffff), &mut key),
         Ok(1),
     )?;
-    check(key == [0x7d3c])
+    check(key == [0x7d3c])?;
+    check_eq(
+        derive::<Doubled<Byte>>(&other, KioskNumber(0x10000), &mut key),
+        Err(Refusal::NoSuchKiosk),
+    )
 }

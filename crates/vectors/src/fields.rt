@@ -27,8 +27,8 @@ fn bytes_of_fips_197() -> Result<(), Fail> {
     check_eq(sum::<Byte>(0x57, 0x83), Some(0xd4))?;
     check_eq(product::<Byte>(0x57, 0x83), Some(0xc1))?;
     check_eq(product::<Byte>(0x57, 0x13), Some(0xfe))?;
-    for (power, doubled) in [(0x02, 0xae), (0x04, 0x47), (0x08, 0x8e), (0x10, 0x07)] {
-        check_eq(product::<Byte>(0x57, power), Some(doubled))?;
+    for (power, answer) in [(0x02, 0xae), (0x04, 0x47), (0x08, 0x8e), (0x10, 0x07)] {
+        check_eq(product::<Byte>(0x57, power), Some(answer))?;
     }
     check_eq(inverse::<Byte>(0x53), Some(0xca))
 }
@@ -41,7 +41,7 @@ fn residues() -> Result<(), Fail> {
     check_eq(inverse::<Residue>(256), Some(256))
 }
 
-// Every code but zero has an inverse, and only codes below the order have an element.
+// Every code below the order but zero has an inverse, and the order has no element.
 fn inverses<F: Field>(order: u32) -> Result<(), Fail> {
     check_eq(inverse::<F>(0), None)?;
     for x in 1..order {

@@ -10,7 +10,7 @@ use crate::interface::Field;
 // What the mark of a doubled field is above that of the lower one.
 const MARK_ABOVE: u32 = 16;
 
-// The order of the lower field, which is small enough for its square to be an order.
+// The order of the lower field, which is small enough for its square to be an order. `laws` and `coefficients` are called for their promises.
 fn lower_order<F: Doubling>() -> u32
     ensures value { λ r. ⌜ r ≡ F·Field .arith .order ⌝ }
     ensures bounds { λ _. ⌜ (2 ≤ F·Field .arith .order) × (F·Field .arith .order ≤ 65536) ⌝ }
