@@ -138,7 +138,7 @@ module _ (A : Arith) (L : Laws A) (d e : ℕ) (hd : d < A .order) (he : e < A .o
   inverse-zero =
       ap (D .inverse) (sym zero-code)
       ∙ ap (λ (p : Pair). pair-inverse A d e (p .0 .0) (p .1 .0)) (parts-of (P .zero))
-      ∙ ap (λ (n : Code A). mapped (pair-over A d e 0 0) (A .inverse (n .0))) (ring R (δ ∷ ε ∷ []) (norm-of #0 #0) #0 refl)
+      ∙ ap (λ (n : Code A). mapped (pair-over A d e 0 0) (A .inverse (n .0))) (ring R (δ ∷ ε ∷ []) (norm-of (#0, #0)) #0 refl)
       ∙ ap (mapped (pair-over A d e 0 0)) (L .inverse-zero)
 
   module _ (rootless : Rootless A d e) where
@@ -190,7 +190,7 @@ module _ (A : Arith) (L : Laws A) (d e : ℕ) (hd : d < A .order) (he : e < A .o
           let Z = parts z hz in
           right (P .mul) X (P .add Y Z)
           ∙ ap of (P .mul-add X Y Z)
-          ∙ sym (left (P .add) (P .mul X Y) (parts (of (P .mul X Z)) (of-below (P .mul X Z))) ∙ right (P .add) (P .mul X Y) (P .mul X Z));
+          ∙ sum-of (P .mul X Y) (P .mul X Z) refl refl;
       inverse-zero = inverse-zero;
       inverse-else = inverse-else;
     }

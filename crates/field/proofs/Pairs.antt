@@ -34,8 +34,12 @@ abbrev product : Exprs → Exprs → Exprs
 product (a, b) (f, g) = (a ⊗ f ⊕ b ⊗ g ⊗ E, a ⊗ g ⊕ b ⊗ f ⊕ b ⊗ g ⊗ D)
 
 -- a·a + a·b·d - b·b·e
-abbrev pub norm-of : Expr → Expr → Expr
-norm-of a b = a ⊗ a ⊕ a ⊗ b ⊗ D ⊕ ⊖ (b ⊗ b ⊗ E)
+abbrev pub norm-of : Exprs → Expr
+norm-of (a, b) = a ⊗ a ⊕ a ⊗ b ⊗ D ⊕ ⊖ (b ⊗ b ⊗ E)
+
+-- (a + b·d)·n - (b·n)·w
+abbrev over-of : Exprs → Expr → Exprs
+over-of (a, b) n = ((a ⊕ b ⊗ D) ⊗ n, ⊖ (b ⊗ n))
 
 module _ {C : Type 0} (R : Ring C) (d e : C) where
   abbrev pub both : List C → Exprs → C × C
@@ -91,16 +95,15 @@ module _ {C : Type 0} (R : Ring C) (d e : C) where
   element a b = solve (d ∷ e ∷ a ∷ b ∷ []) (sum (X .0, #0) (product (X .1, #0) (#0, #1))) X refl refl
 
   abbrev pub norm : C → C → C
-  norm a b = value R (values (a, b) none none) (norm-of (X .0) (X .1))
+  norm a b = value R (values (a, b) none none) (norm-of X)
 
   abbrev pub over : C → C → C → C × C
-  over a b n = (R .mul (R .add a (R .mul b d)) n, R .neg (R .mul b n))
+  over a b n = both (values (a, b) (n, R .zero) none) (over-of X (Y .0))
 
   -- a + b·w times (a + b·d)·n - (b·n)·w is the norm times n
   pub over-inverts : (a b n : C) → R .mul (norm a b) n ≡ R .one → pairs .mul (a, b) (over a b n) ≡ pairs .one
   over-inverts a b n unit =
-      solve (d ∷ e ∷ a ∷ b ∷ n ∷ []) (product X ((X .0 ⊕ X .1 ⊗ D) ⊗ var 4, ⊖ (X .1 ⊗ var 4))) (norm-of (X .0) (X .1) ⊗ var 4, #0) refl refl
-      ∙ ap constant unit
+      solve (values (a, b) (n, R .zero) none) (product X (over-of X (Y .0))) (norm-of X ⊗ Y .0, #0) refl refl ∙ ap constant unit
 
 module _ {C : Type 0} (K : Field C) (d e : C) (rootless : (z : C) → K .ring .mul z z ≡ K .ring .add (K .ring .mul d z) e → ⊥) where
   abbrev R : Ring C
@@ -111,30 +114,27 @@ module _ {C : Type 0} (K : Field C) (d e : C) (rootless : (z : C) → K .ring .m
   root a b c no-norm unit = rootless (R .neg (R .mul a c)) (apart ∙ ap (rest (R .mul b c)) no-norm ∙ ap (λ k. rest k (R .zero)) unit ∙ nothing)
     where
       Root : Expr
-      Root = ⊖ (var 2 ⊗ var 4)
+      Root = ⊖ (X .0 ⊗ Y .0)
 
-      -- the multiples for 1 - k and n
+      -- d·z + e, and the multiples of n and of 1 - k
       Rest : Expr → Expr → Expr
-      Rest k n = D ⊗ Root ⊕ E ⊕ (n ⊗ (var 4 ⊗ var 4) ⊕ (#1 ⊕ ⊖ k) ⊗ (D ⊗ var 2 ⊗ var 4 ⊕ ⊖ (E ⊗ (#1 ⊕ var 3 ⊗ var 4))))
-
-      values : List C
-      values = d ∷ e ∷ a ∷ b ∷ c ∷ []
+      Rest k n = D ⊗ Root ⊕ E ⊕ (n ⊗ (Y .0 ⊗ Y .0) ⊕ (#1 ⊕ ⊖ k) ⊗ (D ⊗ X .0 ⊗ Y .0 ⊕ ⊖ (E ⊗ (#1 ⊕ X .1 ⊗ Y .0))))
 
       rest : C → C → C
-      rest k n = value R (d ∷ e ∷ a ∷ b ∷ c ∷ k ∷ n ∷ []) (Rest (var 5) (var 6))
+      rest k n = value R (values R d e (a, b) (c, k) (n, R .zero)) (Rest (Y .1) (Z .0))
 
       apart : R .mul (R .neg (R .mul a c)) (R .neg (R .mul a c)) ≡ rest (R .mul b c) (norm R d e a b)
-      apart = ring R values (Root ⊗ Root) (Rest (var 3 ⊗ var 4) (norm-of (var 2) (var 3))) refl
+      apart = ring R (values R d e (a, b) (c, R .zero) (none R d e)) (Root ⊗ Root) (Rest (X .1 ⊗ Y .0) (norm-of X)) refl
 
       nothing : rest (R .one) (R .zero) ≡ R .add (R .mul d (R .neg (R .mul a c))) e
-      nothing = ring R values (Rest #1 #0) (D ⊗ Root ⊕ E) refl
+      nothing = ring R (values R d e (a, b) (c, R .zero) (none R d e)) (Rest #1 #0) (D ⊗ Root ⊕ E) refl
 
   -- without a root, only zero has the norm zero
   pub norm-zero : (a b : C) → norm R d e a b ≡ R .zero → (a ≡ R .zero) × (b ≡ R .zero)
   norm-zero a b no-norm =
       ⊎-elim
       (λ b-zero.
-      let square : R .mul a a ≡ R .zero = sym (ring R (d ∷ e ∷ a ∷ []) (norm-of (var 2) #0) (var 2 ⊗ var 2) refl) ∙ ap (norm R d e a) (sym b-zero) ∙ no-norm in
+      let square : R .mul a a ≡ R .zero = sym (ring R (d ∷ e ∷ a ∷ []) (norm-of (X .0, #0)) (X .0 ⊗ X .0) refl) ∙ ap (norm R d e a) (sym b-zero) ∙ no-norm in
       (⊎-elim (λ h. h) (λ h. h) (zero-factor K a a square), b-zero))
       (λ nonzero. let (c, unit) = K .inverse b nonzero in absurd (root a b c no-norm unit))
       (K .zero-or-not b)
