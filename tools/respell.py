@@ -105,9 +105,10 @@ def main(root):
         def turn(piece):
             def one(m):
                 w = m[0]
-                if not DASHED.match(w) or w in imported:
-                    return w
                 dotted = m.start() and piece[m.start() - 1] == "."
+                # behind a dot it is a field, and a file brings in no fields
+                if not DASHED.match(w) or w in imported and not (dotted and w in declared):
+                    return w
                 if function and (w in made or dotted and w not in declared):
                     return label(w)
                 return respell(w)

@@ -169,7 +169,7 @@ module _ (A : Arith) (L : Laws A) (d e : ℕ) (hd : d < A.order) (he : e < A.ord
           let Z = parts z hz in
           left P.add (P.add X Y) Z ∙ ap of (P.add_assoc X Y Z) ∙ sym (right P.add X (P.add Y Z));
       sum_comm = λ x y hx hy. ap of (P.add_comm (parts x hx) (parts y hy));
-      sum_zero = λ x h. ap (λ n. D.sum n x) (sym zero_code) ∙ left P.add P.zero (parts x h) ∙ ap of (P.zero-add (parts x h)) ∙ of_parts x h;
+      sum_zero = λ x h. ap (λ n. D.sum n x) (sym zero_code) ∙ left P.add P.zero (parts x h) ∙ ap of (P.zero_add (parts x h)) ∙ of_parts x h;
       sum_negative = λ x h. right P.add (parts x h) (P.neg (parts x h)) ∙ ap of (P.add_neg (parts x h)) ∙ zero_code;
       product_assoc = λ x y z hx hy hz.
           let X = parts x hx in

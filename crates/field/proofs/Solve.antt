@@ -146,7 +146,7 @@ module _ {E : Type 0} (R : Ring E) (values : List E) where
   join_is (v ∷ vs) ws = put_is v (join vs ws) ∙ ap (R.mul (variable v)) (join_is vs ws) ∙ sym (R.mul_assoc (variable v) (of_vars vs) (of_vars ws))
 
   times_add : (m n : ℕ) (x : E) → times (m + n) x ≡ R.add (times m x) (times n x)
-  times_add zero n x = ap (λ k. times k x) (zero-add n) ∙ sym (R.zero-add (times n x))
+  times_add zero n x = ap (λ k. times k x) (zero-add n) ∙ sym (R.zero_add (times n x))
   times_add (suc m) n x = ap (λ k. times k x) (suc-add m n) ∙ ap (R.add x) (times_add m n x) ∙ sym (R.add_assoc x (times m x) (times n x))
 
   times_mul_left : (n : ℕ) (x y : E) → times n (R.mul x y) ≡ R.mul x (times n y)
@@ -196,7 +196,7 @@ module _ {E : Type 0} (R : Ring E) (values : List E) where
           ∙ R.add_assoc (of_term t) (of_term s) (of_terms ss)
 
   plus_all_is : (p q : List Term) → of_terms (plus_all p q) ≡ R.add (of_terms p) (of_terms q)
-  plus_all_is [] q = sym (R.zero-add (of_terms q))
+  plus_all_is [] q = sym (R.zero_add (of_terms q))
   plus_all_is (t ∷ ts) q = insert_is t (plus_all ts q) ∙ ap (R.add (of_term t)) (plus_all_is ts q) ∙ sym (R.add_assoc (of_term t) (of_terms ts) (of_terms q))
 
   -- m - p = -(p - m)
@@ -271,7 +271,7 @@ module _ {E : Type 0} (R : Ring E) (values : List E) where
       let parts = and_parts (eqb s.plus s.minus) (balanced ss) t in
       ap (λ w. R.add w (of_terms ss))
       (ap (λ n. R.add (times s.plus X) (R.neg (times n X))) (sym (eqb-true s.plus s.minus parts.0)) ∙ R.add_neg (times s.plus X))
-      ∙ R.zero-add (of_terms ss)
+      ∙ R.zero_add (of_terms ss)
       ∙ balanced_is ss parts.1
 
   pub ring : (a b : Expr) → match a b ≡ true → value a ≡ value b
