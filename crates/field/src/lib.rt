@@ -1,4 +1,6 @@
 // Finite fields behind one interface that promises its laws.
+#![tactic(auto)]
+
 pub mod byte;
 pub mod doubled;
 pub mod doubling;

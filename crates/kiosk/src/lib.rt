@@ -1,4 +1,6 @@
 // The kiosk routine: from its own line and another kiosk's number, a kiosk works out the key that the two share.
+#![tactic(auto)]
+
 ghost use Rattle.std.specs.Prelude.{◌≡◌, ◌+◌, ◌^◌, ◌<◌, ◌≤◌, ◌||◌, ◌++◌, length, take, drop, if◌then◌else◌, Some, None, nat_eq, nat_le, slice_index};
 ghost use Rattle.std.specs.Option.{option_map};
 ghost use Rattle.std.specs.List.{AllByRecursion as All};

@@ -96,7 +96,7 @@ pub enum Refusal {
     DrawLength,
     // A code of the draw that is not below the field's order; the index of the first.
     DrawCode { index: usize },
-    // Scratch memory shorter than typeof.m.T codes.
+    // Scratch memory shorter than m·T codes.
     ScratchTooShort,
     // A kiosk number that is 0 or not below the field's order.
     NoSuchKiosk,

@@ -1,4 +1,6 @@
 // Prints the keys that the kiosk of a line shares with other kiosks: the line comes on standard input, the others' numbers are the arguments.
+#![tactic(auto)]
+
 mod any_field;
 mod arguments;
 mod report;

@@ -1,4 +1,6 @@
 // Polynomials over any field, and what the scheme makes of them.
+#![tactic(auto)]
+
 ghost use Rattle.std.specs.Prelude.{◌≡◌, ℕ, ◌<◌, List, ◌∷◌, map};
 ghost use Rattle.std.specs.List.{AllByRecursion as All};
 ghost use Rattle.polynomial.specs.Polynomial.{evaluation};

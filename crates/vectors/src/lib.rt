@@ -1,4 +1,6 @@
 // The worked examples, proved from the definitions, and tests of the code on many cases.
+#![tactic(auto)]
+
 ghost use Rattle.std.specs.Prelude.{◌≡◌, length};
 ghost use Rattle.vectors.specs.Examples.{examples, ExamplesHold};
 ghost use Rattle.vectors.specs.SchemeExamples.{scheme_examples, SchemeExamplesHold};
