@@ -12,6 +12,7 @@ use line::number::KioskNumber;
 use report::Failure;
 use std::env;
 use std::io::{Read, Write};
+use std::process::ExitCode;
 
 // The numbers that the arguments write; none where there is no argument, or one writes no number.
 fn numbers(rt: &HostRuntime) -> anyhow::Result<Option<Vec<KioskNumber>>> {
@@ -40,17 +41,19 @@ fn run(rt: &HostRuntime) -> anyhow::Result<()> {
         Ok(lines) => rt.stdout().write_all(lines.as_slice())?,
         Err(Failure::Refused(refusal)) => {
             let words = format!(in rt.alloc(); "refused {refusal}")?;
-            return Err(words.into());
+            return Err(anyhow!(words));
         }
         Err(Failure::Memory) => return Err(anyhow!("out of memory")),
     }
     Ok(())
 }
 
-fn main(rt: HostRuntime) -> anyhow::Result<()> {
-    let result = run(&rt);
-    if let Err(error) = &result {
-        let _ = eprintln!(rt; "pair_key: {error}");
+fn main(rt: HostRuntime) -> ExitCode {
+    match run(&rt) {
+        Ok(()) => ExitCode::SUCCESS,
+        Err(error) => {
+            let _ = eprintln!(rt; "pair_key: {error}");
+            ExitCode::FAILURE
+        }
     }
-    result
 }
