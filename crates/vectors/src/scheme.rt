@@ -155,22 +155,35 @@ fn large_share<F: Field>(draw: &[u32], lane: u32, j: u32, kiosk: u32) -> Option<
     share_code(draw, 9, lane, j, F::from_code(kiosk)?)
 }
 
-// A code of the key of two kiosks, from the share of one.
-fn large_key<F: Field>(draw: &[u32], lane: u32, own: u32, other: u32) -> Option<u32> {
-    let mut share = [F::zero(); 10];
-    for j in 0..10usize {
-        share[j] = F::from_code(large_share::<F>(draw, lane, j as u32, own)?)?;
+// A code of the key of two kiosks, from the share of one. The share is put into the memory that is lent.
+fn large_key<F: Field>(
+    draw: &[u32],
+    lane: u32,
+    own: u32,
+    other: u32,
+    share: &mut [F],
+) -> Option<u32> {
+    let mut j = 0u32;
+    for code in share.iter_mut() {
+        *code = F::from_code(large_share::<F>(draw, lane, j, own)?)?;
+        j = j.saturating_add(1);
     }
-    Some(evaluate(&share, F::from_code(other)?).to_code())
+    Some(evaluate(share, F::from_code(other)?).to_code())
 }
 
 // In every lane two kiosks derive the same code. The whole draw would have 112 lanes.
-fn agree<F: Field>(rt: &impl Abort, draw: &[u32], own: u32, other: u32) -> Result<(), Fail> {
+fn agree<F: Field>(
+    rt: &impl Abort,
+    draw: &[u32],
+    own: u32,
+    other: u32,
+    share: &mut [F],
+) -> Result<(), Fail> {
     for lane in 0..16 {
-        let code = large_key::<F>(draw, lane, own, other).ok_or("no key")?;
-        assert_eq!(rt; large_key::<F>(draw, lane, other, own), Some(code));
+        let code = large_key::<F>(draw, lane, own, other, share).ok_or("no key")?;
+        assert_eq!(rt; large_key::<F>(draw, lane, other, own, share), Some(code));
     }
-    assert_eq!(rt; large_key::<F>(draw, 112, own, other), None);
+    assert_eq!(rt; large_key::<F>(draw, 112, own, other, share), None);
     Ok(())
 }
 
@@ -189,16 +202,20 @@ fn through<F: Field>(draw: &[u32], place: usize, seats: &[u32; 7], weights: &[F]
 }
 
 // Seven seats restore every code of the master, and the codes of seat 5 agree with theirs.
-fn restore<F: Field>(rt: &impl Abort, draw: &[u32; 6160], seats: &[u32; 7]) -> Result<(), Fail> {
-    let mut master = [F::zero(); 7];
-    assert_eq!(rt; write_weights(seats, F::zero(), &mut master), Some(7));
+fn restore<F: Field>(
+    rt: &impl Abort,
+    draw: &[u32; 6160],
+    seats: &[u32; 7],
+    master: &mut [F],
+    agreeing: &mut [F],
+) -> Result<(), Fail> {
+    assert_eq!(rt; write_weights(seats, F::zero(), master), Some(7));
     let further = F::from_code(5).ok_or("no such seat")?;
-    let mut agreeing = [F::zero(); 7];
-    assert_eq!(rt; write_weights(seats, further, &mut agreeing), Some(7));
+    assert_eq!(rt; write_weights(seats, further, agreeing), Some(7));
     for place in 0..880usize {
-        assert_eq!(rt; through(draw, place, seats, &master), Some(draw[place]));
+        assert_eq!(rt; through(draw, place, seats, master), Some(draw[place]));
         let code = large_seat::<F>(draw, place, 5).ok_or("no code")?;
-        assert_eq!(rt; through(draw, place, seats, &agreeing), Some(code));
+        assert_eq!(rt; through(draw, place, seats, agreeing), Some(code));
     }
     Ok(())
 }
@@ -212,16 +229,31 @@ fn largest_sizes_over_doubled_bytes(rt: HostRuntime) -> Result<(), Fail> {
             Some(code)
         );
     }
+    let mut share = [Doubled::<Byte>::zero(); 10];
     for (lane, code) in [(0, 1_178), (15, 63_458)] {
         assert_eq!(rt;
-            large_key::<Doubled<Byte>>(&draw, lane, 65_535, 65_534),
+            large_key::<Doubled<Byte>>(&draw, lane, 65_535, 65_534, &mut share),
             Some(code)
         );
     }
     assert_eq!(rt; large_seat::<Doubled<Byte>>(&draw, 879, 9), Some(5_832));
-    agree::<Doubled<Byte>>(&rt, &draw, 65_535, 1)?;
-    restore::<Doubled<Byte>>(&rt, &draw, &[9, 1, 8, 2, 7, 3, 6])?;
-    restore::<Doubled<Byte>>(&rt, &draw, &[3, 4, 1, 7, 9, 8, 2])
+    agree::<Doubled<Byte>>(&rt, &draw, 65_535, 1, &mut share)?;
+    let mut master = [Doubled::<Byte>::zero(); 7];
+    let mut agreeing = [Doubled::<Byte>::zero(); 7];
+    restore(
+        &rt,
+        &draw,
+        &[9, 1, 8, 2, 7, 3, 6],
+        &mut master,
+        &mut agreeing,
+    )?;
+    restore(
+        &rt,
+        &draw,
+        &[3, 4, 1, 7, 9, 8, 2],
+        &mut master,
+        &mut agreeing,
+    )
 }
 
 #[test]
@@ -233,24 +265,51 @@ fn largest_sizes_over_doubled_residues(rt: HostRuntime) -> Result<(), Fail> {
             Some(code)
         );
     }
+    let mut share = [Doubled::<Residue>::zero(); 10];
     for (lane, code) in [(0, 37_445), (15, 20_238)] {
         assert_eq!(rt;
-            large_key::<Doubled<Residue>>(&draw, lane, 66_048, 66_047),
+            large_key::<Doubled<Residue>>(&draw, lane, 66_048, 66_047, &mut share),
             Some(code)
         );
     }
     assert_eq!(rt; large_seat::<Doubled<Residue>>(&draw, 879, 9), Some(27_797));
-    agree::<Doubled<Residue>>(&rt, &draw, 66_048, 1)?;
-    restore::<Doubled<Residue>>(&rt, &draw, &[9, 1, 8, 2, 7, 3, 6])?;
-    restore::<Doubled<Residue>>(&rt, &draw, &[3, 4, 1, 7, 9, 8, 2])
+    agree::<Doubled<Residue>>(&rt, &draw, 66_048, 1, &mut share)?;
+    let mut master = [Doubled::<Residue>::zero(); 7];
+    let mut agreeing = [Doubled::<Residue>::zero(); 7];
+    restore(
+        &rt,
+        &draw,
+        &[9, 1, 8, 2, 7, 3, 6],
+        &mut master,
+        &mut agreeing,
+    )?;
+    restore(
+        &rt,
+        &draw,
+        &[3, 4, 1, 7, 9, 8, 2],
+        &mut master,
+        &mut agreeing,
+    )
 }
 
 #[test]
 fn largest_sizes_over_bytes_and_residues(rt: HostRuntime) -> Result<(), Fail> {
     let draw = largest_draw(256);
-    agree::<Byte>(&rt, &draw, 255, 254)?;
-    restore::<Byte>(&rt, &draw, &[9, 1, 8, 2, 7, 3, 6])?;
+    agree(&rt, &draw, 255, 254, &mut [Byte::zero(); 10])?;
+    restore(
+        &rt,
+        &draw,
+        &[9, 1, 8, 2, 7, 3, 6],
+        &mut [Byte::zero(); 7],
+        &mut [Byte::zero(); 7],
+    )?;
     let draw = largest_draw(257);
-    agree::<Residue>(&rt, &draw, 256, 255)?;
-    restore::<Residue>(&rt, &draw, &[9, 1, 8, 2, 7, 3, 6])
+    agree(&rt, &draw, 256, 255, &mut [Residue::zero(); 10])?;
+    restore(
+        &rt,
+        &draw,
+        &[9, 1, 8, 2, 7, 3, 6],
+        &mut [Residue::zero(); 7],
+        &mut [Residue::zero(); 7],
+    )
 }

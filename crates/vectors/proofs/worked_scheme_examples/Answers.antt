@@ -11,4 +11,4 @@ use Rattle.vectors.proofs.worked_scheme_examples.Goals as goal
 
 pub returns : goal.returns
 unfolding power byte_product carryless remainder sum_over product_over pair_key coefficient share_code share seat_code seat weight weighted restored
-returns c = record { hold = refl; count = c.count.ensures }
+returns c = record { hold = refl; count = c.scheme_count.ensures }
