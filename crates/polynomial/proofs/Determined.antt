@@ -6,7 +6,7 @@ use Rattle.std.proofs.lemmas.Nat.{div-add-mod', div_below, mod_below}
 use Rattle.std.proofs.ByRecursion.{All-get_or, All-from_get_or}
 use Rattle.std.proofs.lemmas.List.{ext_get_or}
 use Rattle.field.specs.Arith.{Arith, Laws}
-use Rattle.field.proofs.Codes.{Code, codes, codes_field, same_code}
+use Rattle.field.proofs.Codes.{Code, codes_field, same_code}
 use Rattle.polynomial.specs.Polynomial.{evaluation, Codes, Different}
 use Rattle.polynomial.specs.Seat.{seat}
 use Rattle.polynomial.specs.Share.{share}
