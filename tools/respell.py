@@ -113,14 +113,19 @@ def main(root):
                     return label(w)
                 return respell(w)
 
-            return WORD.sub(one, piece)
+            piece = WORD.sub(one, piece)
+            if "AllByRecursion as All" in text:
+                # Rattle keeps the name All for a word of its own
+                piece = re.sub(r"(?<![^\s(){}.;,])All(?![^\s(){}.;,])", "AllByRecursion", piece).replace("AllByRecursion as AllByRecursion", "AllByRecursion")
+            return piece
 
         new = outside(QUIET if f.endswith(".antt") else QUIET_RUST, text, turn)
         pairs = collections.defaultdict(set)
-        for a, b in zip(WORD.findall(text), WORD.findall(new)):
+        was = text.replace("AllByRecursion as All", "AllByRecursion")
+        for a, b in zip(WORD.findall(was), WORD.findall(new)):
             pairs[b].add(a)
         for b, olds in pairs.items():
-            if len(olds) > 1:
+            if len(olds - {"All"}) > 1:
                 # a definition may share its name with a function or a module of src/: these are other kinds of names
                 shared = olds == {b, b.replace("_", "-")} and b in words
                 (said if shared else wrong).append(f"{f}: {' and '.join(sorted(olds))} would both be {b}")

@@ -3,7 +3,7 @@
 
 ghost use Rattle.std.specs.Prelude.{◌≡◌, ◌+◌, ◌^◌, ◌<◌, ◌≤◌, ◌||◌, ◌++◌, length, take, drop, if◌then◌else◌, Some, None, nat_eq, nat_le, slice_index};
 ghost use Rattle.std.specs.Option.{option_map};
-ghost use Rattle.std.specs.List.{AllByRecursion as All};
+ghost use Rattle.std.specs.List.{AllByRecursion};
 ghost use Rattle.polynomial.specs.PairKey.{pair_key};
 ghost use Rattle.polynomial.specs.Polynomial.{evaluation};
 ghost use Rattle.line.specs.KioskLine.{InForm};
@@ -31,7 +31,7 @@ fn point<F: Field>(number: KioskNumber) -> Option<F>
 // The element of the code with this index.
 fn element<F: Field>(codes: CodeText<'_>, index: usize) -> F
     requires readable { Readable codes.text.now }
-    requires below { All (λ c. c < F.Field.arith.order) (codes_in codes.text.now) }
+    requires below { AllByRecursion (λ c. c < F.Field.arith.order) (codes_in codes.text.now) }
     requires within { index < length (codes_in codes.text.now) }
     ensures { F.Field.code result ≡ slice_index (codes_in codes.entry.text.now) index }
 {
@@ -47,7 +47,7 @@ fn element<F: Field>(codes: CodeText<'_>, index: usize) -> F
 // The value at a point of the polynomial that has the codes of a lane for its coefficients.
 fn key_code<F: Field>(codes: CodeText<'_>, first: usize, count: usize, point: F) -> F
     requires readable { Readable codes.text.now }
-    requires below { All (λ c. c < F.Field.arith.order) (codes_in codes.text.now) }
+    requires below { AllByRecursion (λ c. c < F.Field.arith.order) (codes_in codes.text.now) }
     requires within { first + count ≤ length (codes_in codes.text.now) }
     requires fits { first + count < 2 ^ 64 }
     ensures { F.Field.code result ≡ evaluation F.Field.arith (take count (drop first (codes_in codes.entry.text.now))) (F.Field.code point) }

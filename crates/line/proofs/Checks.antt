@@ -1,6 +1,6 @@
 -- Laws of checks that are made in turn: what the first fault of all says of each check, and back.
 use Rattle.std.proofs.Common.{◌≡◌, ℕ, zero, suc, ◌+◌, ◌<◌, ◌≤◌, ◌⊎◌, List, [], ◌∷◌, map, get_or, take, IsErrAnd, Some, None, Ok, Err, Option, Result, sym, refl, ap, ◌∙◌, subst, inl, inr, arith, MatchOption}
-use Rattle.std.specs.List.{range_with_len, AllByRecursion as All}
+use Rattle.std.specs.List.{range_with_len, AllByRecursion}
 use Rattle.std.specs.Option.{option_map}
 use Rattle.std.proofs.lemmas.List.FromFn.{get_or-map-range_with_len, length-map-range_with_len, take-map-range_with_len}
 use Rattle.std.proofs.ByRecursion.{All-from_get_or, All-get_or}
@@ -15,18 +15,18 @@ either None = inr refl
 either (Some x) = inl (x, refl)
 
 -- behind checks that find no fault, the next decides
-pub first_at : {X : Type 0} (checks : List (Option X)) (k : ℕ) (x : X) → All (λ c. c ≡ None) (take k checks) → get_or checks k None ≡ Some x → first checks ≡ Some x
+pub first_at : {X : Type 0} (checks : List (Option X)) (k : ℕ) (x : X) → AllByRecursion (λ c. c ≡ None) (take k checks) → get_or checks k None ≡ Some x → first checks ≡ Some x
 first_at [] k x none e = e
 first_at (c ∷ checks) zero x none e = rw e
 first_at (c ∷ checks) (suc k) x none e = rw none.0 (first_at checks k x none.1 e)
 
 -- where no check finds a fault, none is found
-pub first_all : {X : Type 0} (checks : List (Option X)) → All (λ c. c ≡ None) checks → first checks ≡ None
+pub first_all : {X : Type 0} (checks : List (Option X)) → AllByRecursion (λ c. c ≡ None) checks → first checks ≡ None
 first_all [] none = refl
 first_all (c ∷ checks) none = rw none.0 (first_all checks none.1)
 
 -- where no fault is found, no check finds one
-pub all_none : {X : Type 0} (checks : List (Option X)) → first checks ≡ None → All (λ c. c ≡ None) checks
+pub all_none : {X : Type 0} (checks : List (Option X)) → first checks ≡ None → AllByRecursion (λ c. c ≡ None) checks
 all_none [] e = tt
 all_none (None ∷ checks) e = (refl, all_none checks e)
 all_none (Some x ∷ checks) e = absurd (some≢none x e)
@@ -54,7 +54,7 @@ pub counted_some : {X : Type 0} (f : ℕ → Option X) (n i : ℕ) (x : X) → i
 counted_some f n i x l h e =
     let few : i ≤ n = omega arith in
     first_at (map f (range_with_len 0 n)) i x
-    (subst (All (λ c. c ≡ None)) (sym (take-map-range_with_len f 0 n i few)) (all_none (map f (range_with_len 0 i)) (counted_none f i h)))
+    (subst (AllByRecursion (λ c. c ≡ None)) (sym (take-map-range_with_len f 0 n i few)) (all_none (map f (range_with_len 0 i)) (counted_none f i h)))
     (counted_at f n i l ∙ e)
 
 pub first_one : {X : Type 0} (o : Option X) → first (o ∷ []) ≡ o

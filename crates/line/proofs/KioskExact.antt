@@ -1,6 +1,6 @@
 -- Whatever text is read as a kiosk line is the line written from what was read.
 use Rattle.std.proofs.Common.{◌≡◌, ℕ, ◌+◌, ◌*◌, ◌<◌, ◌≤◌, List, [], ◌∷◌, ◌++◌, length, take, drop, None, sym, ap, ◌∙◌, subst, mul-le-mul, arith}
-use Rattle.std.specs.List.{flat_map, AllByRecursion as All}
+use Rattle.std.specs.List.{flat_map, AllByRecursion}
 use Rattle.std.proofs.lemmas.List.FromFn.{length-map-range_with_len}
 use Rattle.std.proofs.lemmas.List.{take_at}
 use Rattle.line.specs.declared.refusal.Cause.TheVariants.{WrongLetter, NoTab, NoLineFeed}
@@ -81,7 +81,7 @@ exact line mark order text e =
         number_least = head.number.range.least;
         number_below = head.number.range.below;
         count = ap length codes_are ∙ count;
-        codes_below = subst (All (λ c. c < order)) (sym codes_are) found.below;
+        codes_below = subst (AllByRecursion (λ c. c < order)) (sym codes_are) found.below;
       };
       readable = subst Readable (sym part_is) (codes_readable codes found.fit);
     }

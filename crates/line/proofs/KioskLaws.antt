@@ -1,6 +1,6 @@
 -- The kiosk line: its bytes, and its checks taken together.
 use Rattle.std.proofs.Common.{◌≡◌, ℕ, ◌+◌, ◌*◌, ◌^◌, List, [], ◌∷◌, ◌++◌, length, get_or, take, drop, IsErrAnd, IfOk, Some, None, Err, Option, Result, sym, ap, ◌∙◌, subst, arith}
-use Rattle.std.specs.List.{AllByRecursion as All, flat_map}
+use Rattle.std.specs.List.{AllByRecursion, flat_map}
 use Rattle.line.specs.declared.refusal.Cause.TheVariants.{WrongLetter, NoTab, NoLineFeed, OutOfRange, OtherMark}
 use Rattle.line.specs.declared.refusal.LineFault.{LineFault}
 use Rattle.std.proofs.lemmas.List.{append_assoc, length-append}
@@ -87,20 +87,20 @@ module _ (line mark order : ℕ) (text : List ℕ) where
   abbrev pub head_checks : List (Option LineFault)
   head_checks = letter_check ∷ mark_check ∷ tour_check ∷ degree_check ∷ lanes_check ∷ number_check ∷ []
 
-  head_found : (k : ℕ) (f : LineFault) → All (λ c. c ≡ None) (take k head_checks) → get_or head_checks k None ≡ Some f → head_fault line mark order text ≡ Some f
+  head_found : (k : ℕ) (f : LineFault) → AllByRecursion (λ c. c ≡ None) (take k head_checks) → get_or head_checks k None ≡ Some f → head_fault line mark order text ≡ Some f
   unfolding head_fault
   head_found k f none e = first_at head_checks k f none e
 
   -- what the exit behind the check with this index answers
-  pub head_exit : {X : Type 0} (k : ℕ) (r : Result KioskHead LineFault) (x : X) (f : LineFault) → IsErrAnd r (λ y. y ≡ f) → All (λ c. c ≡ None) (take k head_checks) → Err f ≡ unless (get_or head_checks k None) x → r ≡ unless (head_fault line mark order text) (kiosk_head text)
+  pub head_exit : {X : Type 0} (k : ℕ) (r : Result KioskHead LineFault) (x : X) (f : LineFault) → IsErrAnd r (λ y. y ≡ f) → AllByRecursion (λ c. c ≡ None) (take k head_checks) → Err f ≡ unless (get_or head_checks k None) x → r ≡ unless (head_fault line mark order text) (kiosk_head text)
   head_exit k r x f by none e =
       at_exit r (head_fault line mark order text) (kiosk_head text) f by (head_found k f none (some_from_err (get_or head_checks k None) x f e))
 
-  pub head_passed : All (λ c. c ≡ None) head_checks → head_fault line mark order text ≡ None
+  pub head_passed : AllByRecursion (λ c. c ≡ None) head_checks → head_fault line mark order text ≡ None
   unfolding head_fault
   head_passed none = first_all head_checks none
 
-  pub head_each : head_fault line mark order text ≡ None → All (λ c. c ≡ None) head_checks
+  pub head_each : head_fault line mark order text ≡ None → AllByRecursion (λ c. c ≡ None) head_checks
   unfolding head_fault
   head_each e = all_none head_checks e
 
@@ -119,12 +119,12 @@ module _ (line mark order : ℕ) (text : List ℕ) where
   abbrev pub line_checks : List (Option LineFault)
   line_checks = head_fault line mark order text ∷ tab_check ∷ codes_check ∷ line_feed_check ∷ end_check ∷ []
 
-  line_found : (k : ℕ) (f : LineFault) → All (λ c. c ≡ None) (take k line_checks) → get_or line_checks k None ≡ Some f → kiosk_fault line mark order text ≡ Some f
+  line_found : (k : ℕ) (f : LineFault) → AllByRecursion (λ c. c ≡ None) (take k line_checks) → get_or line_checks k None ≡ Some f → kiosk_fault line mark order text ≡ Some f
   unfolding kiosk_fault
   line_found k f none e = first_at line_checks k f none e
 
   -- what the exit behind the check with this index answers
-  pub line_exit : {X : Type 0} (k : ℕ) (r : Result KioskLine LineFault) (x : X) (f : LineFault) → IsErrAnd r (λ y. y ≡ f) → All (λ c. c ≡ None) (take k line_checks) → Err f ≡ unless (get_or line_checks k None) x → (seen r ≡ reading line mark order text) × IfOk r (λ l. Exact mark order text l.head l.codes.text.now)
+  pub line_exit : {X : Type 0} (k : ℕ) (r : Result KioskLine LineFault) (x : X) (f : LineFault) → IsErrAnd r (λ y. y ≡ f) → AllByRecursion (λ c. c ≡ None) (take k line_checks) → Err f ≡ unless (get_or line_checks k None) x → (seen r ≡ reading line mark order text) × IfOk r (λ l. Exact mark order text l.head l.codes.text.now)
   line_exit k r x f by none e =
       let found = line_found k f none (some_from_err (get_or line_checks k None) x f e) in
       let p = err_from_is_err_and r by in (
@@ -132,10 +132,10 @@ module _ (line mark order : ℕ) (text : List ℕ) where
         subst (λ a. IfOk a (λ l. Exact mark order text l.head l.codes.text.now)) (sym p.1) tt,
       )
 
-  pub line_passed : All (λ c. c ≡ None) line_checks → kiosk_fault line mark order text ≡ None
+  pub line_passed : AllByRecursion (λ c. c ≡ None) line_checks → kiosk_fault line mark order text ≡ None
   unfolding kiosk_fault
   line_passed none = first_all line_checks none
 
-  pub line_each : kiosk_fault line mark order text ≡ None → All (λ c. c ≡ None) line_checks
+  pub line_each : kiosk_fault line mark order text ≡ None → AllByRecursion (λ c. c ≡ None) line_checks
   unfolding kiosk_fault
   line_each e = all_none line_checks e

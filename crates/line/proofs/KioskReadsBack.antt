@@ -1,6 +1,6 @@
 -- Every kiosk line written, of numbers and codes in form, reads back as its numbers and codes.
 use Rattle.std.proofs.Common.{◌≡◌, ℕ, ◌+◌, ◌*◌, ◌^◌, ◌<◌, ◌≤◌, List, [], ◌∷◌, ◌++◌, length, take, drop, None, Ok, sym, refl, ap, ◌∙◌, arith}
-use Rattle.std.specs.List.{flat_map, AllByRecursion as All}
+use Rattle.std.specs.List.{flat_map, AllByRecursion}
 use Rattle.std.proofs.ByRecursion.{All-weaker}
 use Rattle.std.proofs.lemmas.List.{take_at}
 use Rattle.line.specs.declared.refusal.Cause.TheVariants.{WrongLetter, NoTab, NoLineFeed}
@@ -82,7 +82,7 @@ module _ (line mark order : ℕ) (head : KioskHead) (codes : List ℕ) (mark_fit
   number_range : InRange head.number.0 (number_bounds order)
   number_range = record { fits = omega (arith, form.number_below); least = form.number_least; below = form.number_below }
 
-  codes_fit : All (λ c. c < 2 ^ 32) codes
+  codes_fit : AllByRecursion (λ c. c < 2 ^ 32) codes
   codes_fit = All-weaker (λ c. c < order) (λ c. c < 2 ^ 32) (λ c l. omega arith) codes form.codes_below
 
   head_is : kiosk_head text ≡ head

@@ -1,7 +1,7 @@
 -- What stands in a text where a check finds no fault, and back: where it stands, the check finds none.
 -- What stands from a place on is said by `drop`, so that the steps of a line join from left to right.
 use Rattle.std.proofs.Common.{◌≡◌, ℕ, zero, suc, ◌+◌, ◌*◌, ◌/◌, ◌^◌, ◌<◌, ◌≤◌, List, [], ◌∷◌, ◌++◌, map, length, get_or, drop, Some, None, sym, refl, ap, ◌∙◌, subst, inl, inr, arith}
-use Rattle.std.specs.List.{range_with_len, flat_map, AllByRecursion as All}
+use Rattle.std.specs.List.{range_with_len, flat_map, AllByRecursion}
 use Rattle.std.specs.Result.{result_ok}
 use Rattle.std.proofs.lemmas.List.FromFn.{map-range_with_len_more, fill_by_all}
 use Rattle.std.proofs.ByRecursion.{All-push, All-get_or}
@@ -135,8 +135,8 @@ codes_from text place count = map (λ i. number_at text (place + 8 * i)) (range_
 
 pub record Codes (place count order : ℕ) (text : List ℕ) : Type 0 where
   pub stand : drop place text ≡ flat_map eight (codes_from text place count) ++ drop (place + 8 * count) text
-  pub fit : All (λ c. c < 2 ^ 32) (codes_from text place count)
-  pub below : All (λ c. c < order) (codes_from text place count)
+  pub fit : AllByRecursion (λ c. c < 2 ^ 32) (codes_from text place count)
+  pub below : AllByRecursion (λ c. c < order) (codes_from text place count)
 
 codes_stand_by : (line place order : ℕ) (text : List ℕ) (count : ℕ) → ((k : ℕ) → k < count → code_fault line place order text k ≡ None) → Codes place count order text
 codes_stand_by line place order text zero each = let same : place + 8 * 0 ≡ place = omega arith in record {
@@ -159,8 +159,8 @@ codes_stand_by line place order text (suc n) each =
           ∙ ap (λ bs. bs ++ drop (place + 8 * n + 8) text) (flat_map_more eight [] (codes_from text place n) (f n))
           ∙ ap (λ cs. flat_map eight cs ++ drop (place + 8 * n + 8) text) (sym more)
           ∙ ap (λ p. flat_map eight (codes_from text place (suc n)) ++ drop p text) end;
-      fit = subst (All (λ c. c < 2 ^ 32)) (sym more) (All-push (λ c. c < 2 ^ 32) (codes_from text place n) (f n) before.fit value.range.fits);
-      below = subst (All (λ c. c < order)) (sym more) (All-push (λ c. c < order) (codes_from text place n) (f n) before.below value.range.below);
+      fit = subst (AllByRecursion (λ c. c < 2 ^ 32)) (sym more) (All-push (λ c. c < 2 ^ 32) (codes_from text place n) (f n) before.fit value.range.fits);
+      below = subst (AllByRecursion (λ c. c < order)) (sym more) (All-push (λ c. c < order) (codes_from text place n) (f n) before.below value.range.below);
     }
 
 pub codes_stand : (line place count order : ℕ) (text : List ℕ) → codes_fault line text place count order ≡ None → Codes place count order text
@@ -184,7 +184,7 @@ module _ (place : ℕ) (text codes rest : List ℕ) (stand : drop place text ≡
   pub codes_behind : drop (place + 8 * length codes) text ≡ rest
   codes_behind = behind place text rest (8 * length codes) (flat_map eight codes) (length_codes codes) stand
 
-  pub codes_read : (line order : ℕ) → All (λ c. c < 2 ^ 32) codes → All (λ c. c < order) codes → codes_fault line text place (length codes) order ≡ None
+  pub codes_read : (line order : ℕ) → AllByRecursion (λ c. c < 2 ^ 32) codes → AllByRecursion (λ c. c < order) codes → codes_fault line text place (length codes) order ≡ None
   codes_read line order fit below =
       codes_fault_none line place (length codes) order text
       (λ k l.
@@ -192,7 +192,7 @@ module _ (place : ℕ) (text codes rest : List ℕ) (stand : drop place text ≡
       (record { fits = All-get_or (λ c. c < 2 ^ 32) codes k 0 l fit; least = omega arith; below = All-get_or (λ c. c < order) codes k 0 l below }))
 
 -- codes that are written are read again
-pub codes_in_joined : (codes : List ℕ) → All (λ c. c < 2 ^ 32) codes → codes_in (flat_map eight codes) ≡ codes
+pub codes_in_joined : (codes : List ℕ) → AllByRecursion (λ c. c < 2 ^ 32) codes → codes_in (flat_map eight codes) ≡ codes
 unfolding codes_in
 codes_in_joined codes fit =
     let part = flat_map eight codes in
@@ -206,7 +206,7 @@ codes_in_joined codes fit =
     (All-get_or (λ c. c < 2 ^ 32) codes k 0 l fit))))
 
 -- and each is read by its index
-pub codes_readable : (codes : List ℕ) → All (λ c. c < 2 ^ 32) codes → Readable (flat_map eight codes)
+pub codes_readable : (codes : List ℕ) → AllByRecursion (λ c. c < 2 ^ 32) codes → Readable (flat_map eight codes)
 codes_readable codes fit k l =
     let part = flat_map eight codes in
     let same = codes_in_joined codes fit in

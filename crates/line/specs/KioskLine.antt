@@ -1,6 +1,6 @@
 -- The kiosk line: the letter k, five numbers and the codes of a share, in 48 + 8·m(t+1) bytes.
 use Rattle.std.specs.Prelude.{◌≡◌, ℕ, ◌+◌, ◌*◌, ◌^◌, ◌<◌, ◌≤◌, cond, ◌||◌, List, [], ◌∷◌, ◌++◌, length, take, drop, Ok, Err, Option, Result, ◌==◌}
-use Rattle.std.specs.List.{flat_map, AllByRecursion as All}
+use Rattle.std.specs.List.{flat_map, AllByRecursion}
 use Rattle.line.specs.declared.refusal.Cause.{Cause}
 use Rattle.line.specs.declared.refusal.Cause.TheVariants.{WrongLetter, NoTab, NoHexDigit, NoLineFeed, OutOfRange, OtherMark}
 use Rattle.line.specs.declared.refusal.LineFault.{LineFault}
@@ -40,7 +40,7 @@ pub record InForm (mark order : ℕ) (head : KioskHead) (codes : List ℕ) : Typ
   pub number_least : 1 ≤ head.number.0
   pub number_below : head.number.0 < order
   pub count : length codes ≡ share_size head
-  pub codes_below : All (λ c. c < order) codes
+  pub codes_below : AllByRecursion (λ c. c < order) codes
 
 -- the head that stands at the places of its numbers
 abbrev pub kiosk_head : List ℕ → KioskHead

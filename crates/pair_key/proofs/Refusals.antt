@@ -3,7 +3,7 @@ use Rattle.std.proofs.Common.{◌≡◌, ℕ, suc, ◌<◌, List, ◌∷◌, map
 use Rattle.std.proofs.ByRecursion.{All-map}
 use Rattle.std.proofs.lemmas.List.{take-map, get_or-map}
 use Rattle.std.specs.Option.{option_map}
-use Rattle.std.specs.List.{AllByRecursion as All}
+use Rattle.std.specs.List.{AllByRecursion}
 use Rattle.field.specs.Arith.{Arith}
 use Rattle.line.proofs.Checks.{first_at, first_all}
 use Rattle.line.specs.KioskLine.{kiosk_fault}
@@ -23,7 +23,7 @@ module _ (A : Arith) (text : List ℕ) (others : List KioskNumber) where
   refusal_of v = refusal A text v.0 16
 
   abbrev Passed : List KioskNumber → Type 0
-  Passed vs = All (λ (v : KioskNumber). refusal A text v.0 16 ≡ None) vs
+  Passed vs = AllByRecursion (λ (v : KioskNumber). refusal A text v.0 16 ≡ None) vs
 
   pub line_refused : (cause : Refusal) → line_refusal ≡ Some cause → first_refusal A text others ≡ Some cause
   unfolding first_refusal
@@ -33,7 +33,7 @@ module _ (A : Arith) (text : List ℕ) (others : List KioskNumber) where
   unfolding first_refusal
   one_refused i cause none passed inside e =
       first_at (line_refusal ∷ map refusal_of others) (suc i) cause
-      (none, subst (All (λ o. o ≡ None)) (sym (take-map refusal_of i others)) (All-map (λ o. o ≡ None) refusal_of (take i others) passed))
+      (none, subst (AllByRecursion (λ o. o ≡ None)) (sym (take-map refusal_of i others)) (All-map (λ o. o ≡ None) refusal_of (take i others) passed))
       (get_or-map refusal_of others i (record { 0 = 0 }) None inside ∙ e)
 
   pub none_refused : line_refusal ≡ None → Passed others → first_refusal A text others ≡ None

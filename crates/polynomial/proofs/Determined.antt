@@ -1,7 +1,7 @@
 -- What shares and seat codes determine: a polynomial with too many zeros vanishes, so two masters or draws that agree often enough are one.
 use Rattle.std.proofs.Common.{◌≡◌, ℕ, ◌+◌, ◌*◌, ◌/◌, ◌%◌, ◌<◌, max, List, length, get_or, sym, ap, ◌∙◌, arith}
 use native.Mathlib.Nat.{min-eq_left, max-eq_right}
-use Rattle.std.specs.List.{AllByRecursion as All}
+use Rattle.std.specs.List.{AllByRecursion}
 use Rattle.std.proofs.lemmas.Nat.{div-add-mod', div_below, mod_below}
 use Rattle.std.proofs.ByRecursion.{All-get_or, All-from_get_or}
 use Rattle.std.proofs.lemmas.List.{ext_get_or}
@@ -50,7 +50,7 @@ module _ (A : Arith) (L : Laws A) where
 
   -- where the shares of t + 1 different kiosks are the same, so is every coefficient
   same_square : (t m : ℕ) (kiosks first second : List ℕ) (b₁ : Codes A first) (b₂ : Codes A second) → Different kiosks → Codes A kiosks → length kiosks ≡ t + 1 →
-      All (λ u. share A t m first u ≡ share A t m second u) kiosks → (lane i j : ℕ) → lane < m → i < t + 1 → j < t + 1 → square A L t first b₁ lane i j ≡ square A L t second b₂ lane i j
+      AllByRecursion (λ u. share A t m first u ≡ share A t m second u) kiosks → (lane i j : ℕ) → lane < m → i < t + 1 → j < t + 1 → square A L t first b₁ lane i j ≡ square A L t second b₂ lane i j
   same_square t m kiosks first second b₁ b₂ different below count same lane i j in_lanes h k =
       same_coefficients (codes_field A L) (t + 1) (λ n. square A L t first b₁ lane n j) (λ n. square A L t second b₂ lane n j) (code_at A L kiosks below)
       (λ n l a b. apart kiosks below different n l (omega arith) (omega arith))
@@ -63,7 +63,7 @@ module _ (A : Arith) (L : Laws A) where
       i h
 
   one_master : (t m : ℕ) (kiosks first second : List ℕ) → Master A t m first → Master A t m second → Different kiosks → Codes A kiosks → length kiosks ≡ t + 1 →
-      All (λ u. share A t m first u ≡ share A t m second u) kiosks → first ≡ second
+      AllByRecursion (λ u. share A t m first u ≡ share A t m second u) kiosks → first ≡ second
   one_master t m kiosks first second m₁ m₂ different below count same =
       ext_get_or 0 first second (m₁.size ∙ sym m₂.size)
       (λ n h.
@@ -81,7 +81,7 @@ module _ (A : Arith) (L : Laws A) where
       ∙ ap (λ k. get_or second k 0) (spot_of t m n inside))
 
   one_draw : (size k : ℕ) (seats first second : List ℕ) → length first ≡ k * size → length second ≡ k * size → Codes A first → Codes A second → Different seats → Codes A seats → length seats ≡ k →
-      All (λ s. seat A size k first s ≡ seat A size k second s) seats → first ≡ second
+      AllByRecursion (λ s. seat A size k first s ≡ seat A size k second s) seats → first ≡ second
   one_draw size k seats first second size₁ size₂ b₁ b₂ different below count same =
       ext_get_or 0 first second (size₁ ∙ sym size₂)
       (λ n h.

@@ -1,7 +1,7 @@
 -- Horner's rule for codes, carried over from the ring that the codes of a lawful field form.
 use Rattle.std.proofs.Common.{◌≡◌, ℕ, zero, suc, ◌+◌, ◌*◌, ◌<◌, ◌≤◌, List, [], ◌∷◌, map, length, get_or, take, drop, sym, refl, ap, ◌∙◌, ⊎_elim, arith}
 use mathlib.Core.Path.{fun_ext}
-use Rattle.std.specs.List.{AllByRecursion as All}
+use Rattle.std.specs.List.{AllByRecursion}
 use Rattle.std.proofs.ByRecursion.{All-get_or, All-map}
 use Rattle.std.proofs.lemmas.List.FromFn.{get_or-map-range_with_len, length-map-range_with_len}
 use Rattle.std.proofs.lemmas.List.{get_or_past, get_or-take, get_or-drop, length-take, length-drop}
@@ -13,12 +13,12 @@ use Rattle.polynomial.specs.Polynomial.{sum_over, evaluation}
 use Rattle.polynomial.proofs.Sums.{sums, powers, value_at, horner_rule}
 
 -- what holds of every element holds of each in a list
-everywhere : {X : Type 0} (P : X → Type 0) → ((x : X) → P x) → (xs : List X) → All P xs
+everywhere : {X : Type 0} (P : X → Type 0) → ((x : X) → P x) → (xs : List X) → AllByRecursion P xs
 everywhere P all [] = tt
 everywhere P all (x ∷ xs) = (all x, everywhere P all xs)
 
 -- the codes of elements are below the order
-pub codes_below : {A : Arith} {E : Type 0} {code : E → ℕ} → Coding A code → (xs : List E) → All (λ c. c < A.order) (map code xs)
+pub codes_below : {A : Arith} {E : Type 0} {code : E → ℕ} → Coding A code → (xs : List E) → AllByRecursion (λ c. c < A.order) (map code xs)
 codes_below {A} {E} {code} coding xs = All-map (λ c. c < A.order) code xs (everywhere (λ x. code x < A.order) coding.below xs)
 
 module _ (A : Arith) (L : Laws A) where
@@ -37,17 +37,17 @@ module _ (A : Arith) (L : Laws A) where
       sums_code n (λ j. (codes A L).mul (c j) (powers (codes A L) x j))
       ∙ ap (sum_over A n) (fun_ext (λ j. ap (A.product (c j).0) (powers_code x j)))
 
-  pub code_below : (cs : List ℕ) → All (λ c. c < A.order) cs → (j : ℕ) → get_or cs j 0 < A.order
+  pub code_below : (cs : List ℕ) → AllByRecursion (λ c. c < A.order) cs → (j : ℕ) → get_or cs j 0 < A.order
   code_below cs below j =
       ⊎_elim (λ h. All-get_or (λ c. c < A.order) cs j 0 h below)
       (λ h. let e = get_or_past cs j 0 h in omega (arith, L.order_least))
       (cases_lt j (length cs))
 
   -- the code at each place of a list, zero past its end
-  abbrev pub code_at : (cs : List ℕ) → All (λ c. c < A.order) cs → ℕ → Code A
+  abbrev pub code_at : (cs : List ℕ) → AllByRecursion (λ c. c < A.order) cs → ℕ → Code A
   code_at cs below j = (get_or cs j 0, code_below cs below j)
 
-  pub evaluation_cons : (c : ℕ) (cs : List ℕ) (x : ℕ) → c < A.order → All (λ d. d < A.order) cs → x < A.order →
+  pub evaluation_cons : (c : ℕ) (cs : List ℕ) (x : ℕ) → c < A.order → AllByRecursion (λ d. d < A.order) cs → x < A.order →
       evaluation A (c ∷ cs) x ≡ A.sum (A.product (evaluation A cs x) x) c
   unfolding evaluation
   evaluation_cons c cs x c_below cs_below x_below =

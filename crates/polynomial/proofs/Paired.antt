@@ -1,6 +1,6 @@
 -- Draws that a pool cannot tell apart are paired off, by adding a draw that it cannot see and taking it away again.
 use Rattle.std.proofs.Common.{◌≡◌, ℕ, ◌+◌, ◌*◌, ◌<◌, List, [], ◌∷◌, length, replicate, sym, ap, ◌∙◌, subst}
-use Rattle.std.specs.List.{AllByRecursion as All}
+use Rattle.std.specs.List.{AllByRecursion}
 use Rattle.std.proofs.lemmas.List.FromFn.{length-map-range_with_len}
 use Rattle.field.specs.Arith.{Arith, Laws}
 use Rattle.field.proofs.Codes.{Code}
@@ -15,7 +15,7 @@ use Rattle.polynomial.proofs.Carried.{counted_codes, share_by, share_is, key_ele
 use Rattle.polynomial.proofs.Shift.{unseen_shift}
 
 -- what holds of each of a list, from two facts that do
-all_both : {X : Type 0} (P Q S : X → Type 0) → ((x : X) → P x → Q x → S x) → (xs : List X) → All P xs → All Q xs → All S xs
+all_both : {X : Type 0} (P Q S : X → Type 0) → ((x : X) → P x → Q x → S x) → (xs : List X) → AllByRecursion P xs → AllByRecursion Q xs → AllByRecursion S xs
 all_both P Q S join [] p q = tt
 all_both P Q S join (x ∷ xs) p q = (join x p.0 q.0, all_both P Q S join xs p.1 q.1)
 
@@ -58,7 +58,7 @@ module _ (A : Arith) (L : Laws A) where
 
   module _ (t m k : ℕ) (pool : Pool A) (shift : List ℕ) (numbered : Numbered A pool) (s : Draw A t m k shift) (unseen : Unseen A t m k pool shift) where
     -- the pool has the same of a draw and of its sum with the shift
-    same_shares : (draw : List ℕ) → Draw A t m k draw → All (λ u. share A t m (plus A draw shift) u ≡ share A t m draw u) pool.kiosks
+    same_shares : (draw : List ℕ) → Draw A t m k draw → AllByRecursion (λ u. share A t m (plus A draw shift) u ≡ share A t m draw u) pool.kiosks
     same_shares draw d =
         all_both (λ u. u < A.order) (λ u. share A t m shift u ≡ replicate (m * (t + 1)) 0) (λ u. share A t m (plus A draw shift) u ≡ share A t m draw u)
         (λ u h none.
@@ -67,7 +67,7 @@ module _ (A : Arith) (L : Laws A) where
         ∙ plus_zeros A L (share A t m draw u) (m * (t + 1)) (share_codes t m k draw d u h) (share_length t m k draw d u h))
         pool.kiosks numbered.kiosks unseen.kiosks
 
-    same_seats : (draw : List ℕ) → Draw A t m k draw → All (λ n. seat A (master_size t m) k (plus A draw shift) n ≡ seat A (master_size t m) k draw n) pool.seats
+    same_seats : (draw : List ℕ) → Draw A t m k draw → AllByRecursion (λ n. seat A (master_size t m) k (plus A draw shift) n ≡ seat A (master_size t m) k draw n) pool.seats
     same_seats draw d =
         all_both (λ n. n < A.order) (λ n. seat A (master_size t m) k shift n ≡ replicate (master_size t m) 0) (λ n. seat A (master_size t m) k (plus A draw shift) n ≡ seat A (master_size t m) k draw n)
         (λ n h none.
@@ -111,7 +111,7 @@ module _ (A : Arith) (L : Laws A) where
         }
 
     module _ (one others : Keys A) where
-      gives_there : (pairs : List (ℕ × ℕ)) → All (Taken A t m shift one others) pairs → (draw : List ℕ) → Draw A t m k draw → Gives A t m pairs one draw → Gives A t m pairs others (plus A draw shift)
+      gives_there : (pairs : List (ℕ × ℕ)) → AllByRecursion (Taken A t m shift one others) pairs → (draw : List ℕ) → Draw A t m k draw → Gives A t m pairs one draw → Gives A t m pairs others (plus A draw shift)
       gives_there pairs taken draw d =
           all_both (Taken A t m shift one others) (λ p. master_key A t m draw p.0 p.1 ≡ one p.0 p.1) (λ p. master_key A t m (plus A draw shift) p.0 p.1 ≡ others p.0 p.1)
           (λ p T e.
@@ -120,7 +120,7 @@ module _ (A : Arith) (L : Laws A) where
           ∙ T.taken)
           pairs taken
 
-      gives_back : (pairs : List (ℕ × ℕ)) → All (Taken A t m shift one others) pairs → (draw : List ℕ) → Draw A t m k draw → Gives A t m pairs others draw → Gives A t m pairs one (less draw)
+      gives_back : (pairs : List (ℕ × ℕ)) → AllByRecursion (Taken A t m shift one others) pairs → (draw : List ℕ) → Draw A t m k draw → Gives A t m pairs others draw → Gives A t m pairs one (less draw)
       gives_back pairs taken draw d =
           all_both (Taken A t m shift one others) (λ p. master_key A t m draw p.0 p.1 ≡ others p.0 p.1) (λ p. master_key A t m (less draw) p.0 p.1 ≡ one p.0 p.1)
           (λ p T e.

@@ -2,7 +2,7 @@
 -- that of (s - x)/s over the pooled seats s, it has c·f(i)·f(j)·g(e) for a(i,j) in block e, where f(i) and g(e) are coefficients.
 use Rattle.std.proofs.Common.{◌≡◌, ℕ, suc, ◌+◌, ◌*◌, ◌/◌, ◌%◌, ◌<◌, ◌≤◌, max, List, [], ◌∷◌, map, length, replicate, sym, refl, ap, ◌∙◌, ⊎_elim, arith}
 use native.Mathlib.Nat.{min-eq_left, min-eq_right, max-eq_left, max-eq_right}
-use Rattle.std.specs.List.{range_with_len, AllByRecursion as All}
+use Rattle.std.specs.List.{range_with_len, AllByRecursion}
 use Rattle.std.proofs.lemmas.Nat.{div-mul-add, mod-mul-add, div_below, mod_below}
 use Rattle.std.proofs.lemmas.List.FromFn.{fill_by_all, length-map-range_with_len}
 use Rattle.std.proofs.ByRecursion.{All-get_or, All-from_get_or}
@@ -50,7 +50,7 @@ module _ (A : Arith) (L : Laws A) where
         let r = code_at A L points below i in
         product_zero R (length points) (λ j. minus (code_at A L points below j) r) i h (R.add_neg r)
 
-    from_nonzero : (x : Code A) → All (λ w. w ≡ x.0 → ⊥) points → from x ≡ R.zero → ⊥
+    from_nonzero : (x : Code A) → AllByRecursion (λ w. w ≡ x.0 → ⊥) points → from x ≡ R.zero → ⊥
     from_nonzero x apart =
         product_nonzero (codes_field A L) (length points) (λ i. minus (code_at A L points below i) x) one_nonzero
         (λ i h e. All-get_or (λ w. w ≡ x.0 → ⊥) points i 0 h apart (ap (λ (c : Code A). c.0) (equal R (code_at A L points below i) x e)))
@@ -138,7 +138,7 @@ module _ (A : Arith) (L : Laws A) where
 
   -- the pieces put together
   unseen_shift_of : (t m k : ℕ) (pool : Pool A) (u v : Code A) (key : List ℕ) → Numbered A pool → length pool.kiosks ≤ t → length pool.seats < k →
-      All (λ s. s ≡ 0 → ⊥) pool.seats → All (λ w. w ≡ u.0 → ⊥) pool.kiosks → All (λ w. w ≡ v.0 → ⊥) pool.kiosks → Codes A key → length key ≡ m →
+      AllByRecursion (λ s. s ≡ 0 → ⊥) pool.seats → AllByRecursion (λ w. w ≡ u.0 → ⊥) pool.kiosks → AllByRecursion (λ w. w ≡ v.0 → ⊥) pool.kiosks → Codes A key → length key ≡ m →
       (shift : List ℕ) × Draw A t m k shift × Unseen A t m k pool shift × (master_key A t m shift u.0 v.0 ≡ key)
   unseen_shift_of t m k pool u v key numbered few_kiosks few_seats nonzero u_apart v_apart key_codes count =
       let kiosks = pool.kiosks in

@@ -1,6 +1,6 @@
 -- Sums, products, and the value of a polynomial, by the codes of a field's elements.
 use Rattle.std.specs.Prelude.{◌≡◌, ℕ, zero, suc, ◌<◌, Bool, List, length, nat_lt, slice_index}
-use Rattle.std.specs.List.{list_all, AllByRecursion as All}
+use Rattle.std.specs.List.{list_all, AllByRecursion}
 use Rattle.field.specs.Arith.{Arith, power}
 
 -- a first value, and then f 0, .., f (n - 1), joined from the left by an operation
@@ -23,7 +23,7 @@ evaluation A coefficients x = sum_over A (length coefficients) (λ j. A.product 
 
 -- numbers that are codes of the field, as a statement and as a test
 abbrev pub Codes : Arith → List ℕ → Type 0
-Codes A numbers = All (λ c. c < A.order) numbers
+Codes A numbers = AllByRecursion (λ c. c < A.order) numbers
 
 abbrev pub are_codes : Arith → List ℕ → Bool
 are_codes A numbers = list_all (λ c. nat_lt c A.order) numbers

@@ -1,7 +1,7 @@
 -- What holds of shares, keys, seats and restoring in every field, from its laws alone.
 use Rattle.std.specs.Prelude.{◌≡◌, ℕ, ◌+◌, ◌*◌, ◌<◌, ◌≤◌, cond, List, ◌++◌, map, length, take, replicate, ◌==◌, ◌≢◌, slice_index_or}
 use Rattle.std.specs.List.Sorted.{IsPermutation}
-use Rattle.std.specs.List.{AllByRecursion as All}
+use Rattle.std.specs.List.{AllByRecursion}
 use Rattle.field.specs.Arith.{Arith}
 use Rattle.polynomial.specs.Adding.{plus, negated, PairedOff}
 use Rattle.polynomial.specs.Interpolation.{difference, quotient, weight, interpolation, restored}
@@ -24,7 +24,7 @@ module _ (A : Arith) where
   abbrev pub Vanishing : Type 0
   Vanishing =
       (coefficients points : List ℕ) → Codes A coefficients → Codes A points → Different points → length points ≡ length coefficients →
-      All (λ x. evaluation A coefficients x ≡ 0) points → All (λ c. c ≡ 0) coefficients
+      AllByRecursion (λ x. evaluation A coefficients x ≡ 0) points → AllByRecursion (λ c. c ≡ 0) coefficients
 
   -- a polynomial through points: it has as many coefficients as there are points, and these values at them
   pub record Through (points values coefficients : List ℕ) : Type 0 where
@@ -60,9 +60,9 @@ module _ (A : Arith) where
   -- Shares of t + 1 different kiosks come from one master alone, and codes of k different seats from one draw alone.
   pub record Determines : Type 0 where
     pub master : (t m : ℕ) (kiosks first second : List ℕ) → Master A t m first → Master A t m second → Different kiosks → Codes A kiosks → length kiosks ≡ t + 1 →
-        All (λ u. share A t m first u ≡ share A t m second u) kiosks → first ≡ second
+        AllByRecursion (λ u. share A t m first u ≡ share A t m second u) kiosks → first ≡ second
     pub draw : (t m k : ℕ) (seats first second : List ℕ) → Draw A t m k first → Draw A t m k second → Different seats → Codes A seats → length seats ≡ k →
-        All (λ s. seat A (master_size t m) k first s ≡ seat A (master_size t m) k second s) seats → first ≡ second
+        AllByRecursion (λ s. seat A (master_size t m) k first s ≡ seat A (master_size t m) k second s) seats → first ≡ second
 
   -- Adding a draw adds shares, keys and seat codes, code by code; a draw and its negative undo one another.
   pub record Adds (t m k : ℕ) (first second : List ℕ) : Type 0 where
@@ -91,21 +91,21 @@ module _ (A : Arith) where
 
   -- a draw that the pool cannot see: its kiosks would have shares of zeros, and its seats codes of zeros
   pub record Unseen (t m k : ℕ) (pool : Pool) (shift : List ℕ) : Type 0 where
-    pub kiosks : All (λ u. share A t m shift u ≡ replicate (m * (t + 1)) 0) pool.kiosks
-    pub seats : All (λ s. seat A (master_size t m) k shift s ≡ replicate (master_size t m) 0) pool.seats
+    pub kiosks : AllByRecursion (λ u. share A t m shift u ≡ replicate (m * (t + 1)) 0) pool.kiosks
+    pub seats : AllByRecursion (λ s. seat A (master_size t m) k shift s ≡ replicate (master_size t m) 0) pool.seats
 
   -- a draw that gives the pool what another draw gives it
   pub record Fits (t m k : ℕ) (pool : Pool) (other draw : List ℕ) : Type 0 where
     pub is_draw : Draw A t m k draw
-    pub kiosks : All (λ u. share A t m draw u ≡ share A t m other u) pool.kiosks
-    pub seats : All (λ s. seat A (master_size t m) k draw s ≡ seat A (master_size t m) k other s) pool.seats
+    pub kiosks : AllByRecursion (λ u. share A t m draw u ≡ share A t m other u) pool.kiosks
+    pub seats : AllByRecursion (λ s. seat A (master_size t m) k draw s ≡ seat A (master_size t m) k other s) pool.seats
 
   -- For a pool of at most t kiosks and at most k - 1 seats, none of them zero, two kiosk numbers outside of it, equal or not, and any m codes: some draw
   -- that the pool cannot see has these codes for the pair key of the two.
   abbrev pub UnseenShift : Type 0
   UnseenShift =
-      (t m k : ℕ) (pool : Pool) (u v : ℕ) (key : List ℕ) → Numbered pool → length pool.kiosks ≤ t → length pool.seats < k → All (λ s. s ≢ 0) pool.seats →
-      u < A.order → v < A.order → All (λ w. w ≢ u) pool.kiosks → All (λ w. w ≢ v) pool.kiosks → Codes A key → length key ≡ m →
+      (t m k : ℕ) (pool : Pool) (u v : ℕ) (key : List ℕ) → Numbered pool → length pool.kiosks ≤ t → length pool.seats < k → AllByRecursion (λ s. s ≢ 0) pool.seats →
+      u < A.order → v < A.order → AllByRecursion (λ w. w ≢ u) pool.kiosks → AllByRecursion (λ w. w ≢ v) pool.kiosks → Codes A key → length key ≡ m →
       (shift : List ℕ) × Draw A t m k shift × Unseen t m k pool shift × (master_key A t m shift u v ≡ key)
 
   -- m codes as the key of each of some pairs of kiosk numbers
@@ -114,7 +114,7 @@ module _ (A : Arith) where
 
   -- the draw gives every one of these pairs the key that is said
   abbrev pub Gives : ℕ → ℕ → List (ℕ × ℕ) → Keys → List ℕ → Type 0
-  Gives t m pairs keys draw = All (λ p. master_key A t m draw p.0 p.1 ≡ keys p.0 p.1) pairs
+  Gives t m pairs keys draw = AllByRecursion (λ p. master_key A t m draw p.0 p.1 ≡ keys p.0 p.1) pairs
 
   -- The pairing, over any draw to be added: where the pool cannot see the shift, and the shift takes the one keys to the others, the draws that fit the pool
   -- and give the one keys are paired off with those that fit it and give the others.
@@ -127,7 +127,7 @@ module _ (A : Arith) where
   abbrev pub Pairing : Type 0
   Pairing =
       (t m k : ℕ) (pool : Pool) (draw shift : List ℕ) (pairs : List (ℕ × ℕ)) (one others : Keys) → Numbered pool → Draw A t m k draw → Draw A t m k shift →
-      Unseen t m k pool shift → All (Taken t m shift one others) pairs →
+      Unseen t m k pool shift → AllByRecursion (Taken t m shift one others) pairs →
       PairedOff (λ d. Fits t m k pool draw d × Gives t m pairs one d) (λ d. Fits t m k pool draw d × Gives t m pairs others d)
 
   -- Whatever the pool holds, every value of an outside pair's key is as open as every other: the draws that fit what the pool holds and give one value are
@@ -135,6 +135,6 @@ module _ (A : Arith) where
   abbrev pub OpenKey : Type 0
   OpenKey =
       (t m k : ℕ) (pool : Pool) (draw : List ℕ) (u v : ℕ) (one other : List ℕ) → Numbered pool → length pool.kiosks ≤ t → length pool.seats < k →
-      All (λ s. s ≢ 0) pool.seats → u < A.order → v < A.order → All (λ w. w ≢ u) pool.kiosks → All (λ w. w ≢ v) pool.kiosks →
+      AllByRecursion (λ s. s ≢ 0) pool.seats → u < A.order → v < A.order → AllByRecursion (λ w. w ≢ u) pool.kiosks → AllByRecursion (λ w. w ≢ v) pool.kiosks →
       Draw A t m k draw → Codes A one → Codes A other → length one ≡ m → length other ≡ m →
       PairedOff (λ d. Fits t m k pool draw d × (master_key A t m d u v ≡ one)) (λ d. Fits t m k pool draw d × (master_key A t m d u v ≡ other))

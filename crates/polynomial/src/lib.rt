@@ -2,7 +2,7 @@
 #![tactic(auto)]
 
 ghost use Rattle.std.specs.Prelude.{◌≡◌, ℕ, ◌<◌, List, ◌∷◌, map};
-ghost use Rattle.std.specs.List.{AllByRecursion as All};
+ghost use Rattle.std.specs.List.{AllByRecursion};
 ghost use Rattle.polynomial.specs.Polynomial.{evaluation};
 
 use field::interface::Field;
@@ -22,7 +22,7 @@ fn times_plus<F: Field>(value: F, point: F, coefficient: F) -> F
 // them. From zero on, over all coefficients from the highest down, this evaluates a polynomial.
 pub fn horner<F: Field>(value: F, point: F, coefficient: F) -> F
     ensures value { F.Field.code result ≡ F.Field.arith.sum (F.Field.arith.product (F.Field.code value) (F.Field.code point)) (F.Field.code coefficient) }
-    ensures evaluates { (higher : List ℕ) → All (λ c. c < F.Field.arith.order) higher → F.Field.code value ≡ evaluation F.Field.arith higher (F.Field.code point) → F.Field.code result ≡ evaluation F.Field.arith (F.Field.code coefficient ∷ higher) (F.Field.code point) }
+    ensures evaluates { (higher : List ℕ) → AllByRecursion (λ c. c < F.Field.arith.order) higher → F.Field.code value ≡ evaluation F.Field.arith higher (F.Field.code point) → F.Field.code result ≡ evaluation F.Field.arith (F.Field.code coefficient ∷ higher) (F.Field.code point) }
 {
     F::laws();
     times_plus(value, point, coefficient)

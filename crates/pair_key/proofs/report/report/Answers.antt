@@ -2,7 +2,7 @@ use Rattle.std.proofs.Common.{◌≡◌, [], ◌++◌, get_or, take, None, vec_i
 use Rattle.std.proofs.ByRecursion.{All-more}
 use Rattle.std.proofs.lemmas.List.{flat_map_more, take_more, take_all}
 use Rattle.std.proofs.lemmas.Result.{err_from_is_err_and}
-use Rattle.std.specs.List.{flat_map, AllByRecursion as All}
+use Rattle.std.specs.List.{flat_map, AllByRecursion}
 use Rattle.line.proofs.Checks.{some_from_err, none_from_ok}
 use Rattle.line.specs.KioskLine.{kiosk_head}
 use Rattle.line.specs.declared.number.KioskNumber.{KioskNumber}
@@ -62,6 +62,6 @@ returns g c =
     let others = c.args.others.now in
     let found = none_from_ok (line_refusal A text others) (kiosk_head text) c.in_ok-head.head c.in_ok-head.ensures in
     let all = take_all c.loop-other.other-index others c.loop-other-test.false in (
-      none_refused A text others found.0 (subst (All (λ (v : KioskNumber). refusal A text v.0 16 ≡ None)) all c.loop-other.invariant.1),
+      none_refused A text others found.0 (subst (AllByRecursion (λ (v : KioskNumber). refusal A text v.0 16 ≡ None)) all c.loop-other.invariant.1),
       c.loop-other.invariant.0 ∙ ap (flat_map (line_of A text)) all,
     )

@@ -1,5 +1,5 @@
 use Rattle.std.proofs.Common.{◌≡◌, take, None, vec_items}
-use Rattle.std.specs.List.{flat_map, AllByRecursion as All}
+use Rattle.std.specs.List.{flat_map, AllByRecursion}
 use Rattle.line.specs.declared.number.KioskNumber.{KioskNumber}
 use Rattle.kiosk.specs.Derivation.{refusal}
 use Rattle.pair_key.specs.Report.{line_of}
@@ -10,4 +10,4 @@ abbrev pub invariant-loop-other : goal.invariant-loop-other
 invariant-loop-other g l =
     let A = g.F.Field.arith in
     (vec_items l.out ≡ flat_map (line_of A l.text) (take l.other-index l.others))
-    × All (λ (v : KioskNumber). refusal A l.text v.0 16 ≡ None) (take l.other-index l.others)
+    × AllByRecursion (λ (v : KioskNumber). refusal A l.text v.0 16 ≡ None) (take l.other-index l.others)
