@@ -34,7 +34,7 @@ value_after n (b ∷ bs) = value_after (n * 16 + unwrap_or (digit_value b) 0) bs
 unfoldable pub number_at : List ℕ → ℕ → ℕ
 number_at text place = value_after 0 (take 8 (drop place text))
 
--- The digit reader's fault at one place, if a hex digit does not stand there. Past the text's end `get_or` reads 0, which is no digit.
+-- The digit reader's fault at one place, if a hex digit does not stand there. Past the text's end `slice_index` reads 0, which is no digit.
 unfoldable pub digit_fault : ℕ → List ℕ → ℕ → Option DigitFault
 digit_fault line text place =
     elim (digit_value (slice_index text place)) [ None ↦ Some (record { line = line; place = place }) | Some d ↦ None ]

@@ -1,5 +1,5 @@
 -- The checks that a line is made of. A check answers the fault that it finds, if it finds one.
--- Past the text's end `get_or` reads 0, which no line has: where a text ends early, the cause is what was missing there.
+-- Past the text's end `slice_index` reads 0, which no line has: where a text ends early, the cause is what was missing there.
 use Rattle.std.specs.Prelude.{◌≡◌, ℕ, ◌+◌, ◌*◌, ◌/◌, ◌<◌, ◌≤◌, cond, ◌&&◌, List, [], ◌∷◌, map, length, Some, None, Option, ◌==◌, nat_le, nat_lt, slice_index}
 use Rattle.std.specs.List.{range_with_len}
 use Rattle.std.specs.Option.{option_map}
