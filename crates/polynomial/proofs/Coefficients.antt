@@ -22,9 +22,9 @@ pub length_column : (t : ℕ) (master : List ℕ) (lane j : ℕ) → length (col
 unfolding column
 length_column t master lane j = length-map-range_with_len (λ i. coefficient t master lane i j) 0 (t + 1)
 
-pub getD_column : (t : ℕ) (master : List ℕ) (lane i j : ℕ) → i ≤ t → get_or (column t master lane j) i 0 ≡ coefficient t master lane i j
+pub get_or_column : (t : ℕ) (master : List ℕ) (lane i j : ℕ) → i ≤ t → get_or (column t master lane j) i 0 ≡ coefficient t master lane i j
 unfolding column
-getD_column t master lane i j h = get_or-map-range_with_len (λ k. coefficient t master lane k j) 0 (t + 1) i i 0 (omega arith) (omega arith)
+get_or_column t master lane i j h = get_or-map-range_with_len (λ k. coefficient t master lane k j) 0 (t + 1) i i 0 (omega arith) (omega arith)
 
 pub share_code_value : (A : Arith) (t : ℕ) (master : List ℕ) (u lane j : ℕ) → share_code A t master u lane j ≡ evaluation A (column t master lane j) u
 unfolding column share_code
@@ -34,9 +34,9 @@ pub length_stack : (size k : ℕ) (draw : List ℕ) (place : ℕ) → length (st
 unfolding stack
 length_stack size k draw place = length-map-range_with_len (λ e. get_or draw (e * size + place) 0) 0 k
 
-pub getD_stack : (size k : ℕ) (draw : List ℕ) (place e : ℕ) → e < k → get_or (stack size k draw place) e 0 ≡ get_or draw (e * size + place) 0
+pub get_or_stack : (size k : ℕ) (draw : List ℕ) (place e : ℕ) → e < k → get_or (stack size k draw place) e 0 ≡ get_or draw (e * size + place) 0
 unfolding stack
-getD_stack size k draw place e h = get_or-map-range_with_len (λ b. get_or draw (b * size + place) 0) 0 k e e 0 h (omega arith)
+get_or_stack size k draw place e h = get_or-map-range_with_len (λ b. get_or draw (b * size + place) 0) 0 k e e 0 h (omega arith)
 
 pub seat_code_value : (A : Arith) (size k : ℕ) (draw : List ℕ) (s place : ℕ) → seat_code A size k draw s place ≡ evaluation A (stack size k draw place) s
 unfolding stack seat_code

@@ -2,7 +2,7 @@ use Rattle.std.proofs.Common.{ℕ, ◌+◌, ◌-◌, ◌*◌, ◌<◌, ◌≤◌
 use Rattle.std.proofs.lemmas.Bool.{lt-ltb, le-leb}
 use Rattle.polynomial.specs.Polynomial.{are_codes}
 use Rattle.polynomial.specs.Seat.{seat_code, stack}
-use Rattle.polynomial.proofs.Coefficients.{length_stack, getD_stack, seat_code_value}
+use Rattle.polynomial.proofs.Coefficients.{length_stack, get_or_stack, seat_code_value}
 use Rattle.polynomial.proofs.Reading.{so_far_none, so_far_more, so_far_all, no_code, answered, refused}
 use Rattle.polynomial.proofs.seat.seat_code.Goals as goal
 
@@ -36,7 +36,7 @@ returns-in_err-coefficient g c =
     let block = c.loop-block.block - 1 in
     let cs = stack c.args.size c.args.threshold table c.args.place in
     let long = length_stack c.args.size c.args.threshold table c.args.place in
-    let here = getD_stack c.args.size c.args.threshold table c.args.place block (omega arith) in
+    let here = get_or_stack c.args.size c.args.threshold table c.args.place block (omega arith) in
     refused (ltb c.args.place c.args.size) (leb (c.args.threshold * c.args.size) (length table)) (are_codes A cs) c.from_residual-in_err-coefficient.result
     (seat_code A c.args.size c.args.threshold table (g.F.Field.code c.args.seat) c.args.place)
     (no_code A cs block (get_or table (block * c.args.size + c.args.place) 0) (omega arith) (sym here) c.in_err-coefficient.ensures)
@@ -50,7 +50,7 @@ loop-block-preserved g c =
     let block = c.loop-block.block - 1 in
     let cs = stack c.args.size c.args.threshold table c.args.place in
     let long = length_stack c.args.size c.args.threshold table c.args.place in
-    let here = getD_stack c.args.size c.args.threshold table c.args.place block (omega arith) in
+    let here = get_or_stack c.args.size c.args.threshold table c.args.place block (omega arith) in
     so_far_more A cs (code c.args.seat) c.loop-block.block (code c.loop-block.value) (get_or table (block * c.args.size + c.args.place) 0) (code c.in_ok-coefficient.coefficient) (code c.horner-value.result)
     c.loop-block-test.true
     (omega arith)

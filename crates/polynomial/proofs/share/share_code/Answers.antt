@@ -4,7 +4,7 @@ use Rattle.std.proofs.lemmas.Bool.{le-leb}
 use Rattle.polynomial.specs.Polynomial.{are_codes}
 use Rattle.polynomial.specs.Share.{share_code, column}
 use Rattle.polynomial.specs.Table.{lane_size, place, coefficient}
-use Rattle.polynomial.proofs.Coefficients.{length_column, getD_column, share_code_value}
+use Rattle.polynomial.proofs.Coefficients.{length_column, get_or_column, share_code_value}
 use Rattle.polynomial.proofs.Reading.{so_far_none, so_far_more, so_far_all, no_code, answered, refused}
 use Rattle.polynomial.proofs.share.share_code.Goals as goal
 
@@ -32,7 +32,7 @@ lane_code t table codes lane i j p is h p_is inside =
     ∙ get_or-take (lane_size t) (drop (lane * lane_size t) table) p 0 inside
     ∙ get_or-drop (lane * lane_size t) table p 0
     ∙ ap (λ k. get_or table (lane * lane_size t + k) 0) p_is
-    ∙ sym (getD_column t table lane i j h)
+    ∙ sym (get_or_column t table lane i j h)
 
 pub returns-in_err-coefficient : goal.returns-in_err-coefficient
 returns-in_err-coefficient g c =
