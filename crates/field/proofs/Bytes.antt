@@ -8,7 +8,8 @@ use Rattle.field.specs.Bytes.{carryless, remainder, Congruent, byte_product, byt
 use Rattle.field.specs.declared.byte.Byte.{Byte}
 use Rattle.field.proofs.Checks.{all_below, at}
 use Rattle.field.proofs.Codes.{Code, same_code}
-use Rattle.field.proofs.Powers.{Monoid, squares, power_below, power_254, inverts, inverts_at}
+use Rattle.field.specs.Product.{Monoid}
+use Rattle.field.proofs.Powers.{power_below, by_halves, by_halves_is, inverts, inverts_at}
 use Rattle.field.proofs.Xor.{Additive, by_bits, additive_zero, agree, additive_below, xor_swap, bit, bit_additive, shift_additive, bit_times, times_bits}
 
 bit_below : (n x : ℕ) → bit n x < 2
@@ -164,13 +165,13 @@ byte_monoid = record {
   one_right = λ x h. product_comm x 1 h (omega arith) ∙ product_one x h;
 }
 
-inverse_test : inverts byte_product 256 (λ x. squares byte_product 7 x 1) ≡ true
-unfolding squares byte_product carryless remainder
+inverse_test : inverts byte_product 256 (λ x. by_halves byte_product 8 x 254) ≡ true
+unfolding by_halves byte_product carryless remainder
 inverse_test = refl
 
 power_inverse : (x : ℕ) → x < 256 → (x ≡ 0 → ⊥) → byte_product x (power byte_product x 254) ≡ 1
 power_inverse x h nonzero =
-    ap (byte_product x) (sym (power_254 byte_monoid x h)) ∙ inverts_at byte_product 256 (λ y. squares byte_product 7 y 1) inverse_test x h nonzero
+    ap (byte_product x) (sym (by_halves_is byte_monoid x h 8 254 (omega arith))) ∙ inverts_at byte_product 256 (λ y. by_halves byte_product 8 y 254) inverse_test x h nonzero
 
 pub byte_laws : Laws byte_arith
 byte_laws = record {

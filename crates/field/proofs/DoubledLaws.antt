@@ -1,8 +1,7 @@
 -- The arithmetic of a doubled field keeps the laws of a field.
-use Rattle.std.proofs.Common.{◌≡◌, ℕ, ◌+◌, ◌*◌, ◌<◌, ◌≤◌, ltb, [], ◌∷◌, Some, None, sym, refl, ap, ◌∙◌, ⊎_elim, add-zero, mod-lt, mod-eq_of_lt, mul_comm, div-lt_iff_lt-mul, mul-le-mul, add_comm, mul-zero, le-div_iff_mul-le, zero-add, mul-one, arith}
+use Rattle.std.proofs.Common.{◌≡◌, ℕ, ◌+◌, ◌*◌, ◌<◌, ◌≤◌, [], ◌∷◌, Some, None, sym, refl, ap, ◌∙◌, add-zero, mod-lt, mod-eq_of_lt, mul_comm, div-lt_iff_lt-mul, mul-le-mul, add_comm, mul-zero, zero-add, mul-one, arith}
 use native.Mathlib.Nat.{mod-add-div, div-eq_of_lt, add-mul-mod_self_left, add-mul-div_left}
 use lib.Arith.{digits_lt}
-use Rattle.std.proofs.lemmas.Bool.{cases_lt, lt-ltb, le-ltb}
 use Rattle.std.specs.Option.{option_map}
 use Rattle.field.specs.Arith.{Arith, Laws, Coding}
 use Rattle.field.specs.Doubled.{Rootless, pair, low, high, pair_over, pair_inverse, doubled, doubled_code, Extends}
@@ -34,14 +33,6 @@ module _ (A : Arith) (least : 2 ≤ A.order) where
 
   pub high_below : (x : ℕ) → x < A.order * A.order → high A x < A.order
   high_below x h = (div-lt_iff_lt-mul positive).1 h
-
-  -- a number is a code of the doubled field where its high part is one of the lower field
-  pub ltb_high : (x : ℕ) → ltb (high A x) A.order ≡ ltb x (A.order * A.order)
-  ltb_high x =
-      ⊎_elim
-      (λ below. lt-ltb (high A x) A.order (high_below x below) ∙ sym (lt-ltb x (A.order * A.order) below))
-      (λ above. le-ltb (high A x) A.order ((le-div_iff_mul-le positive).1 above) ∙ sym (le-ltb x (A.order * A.order) above))
-      (cases_lt x (A.order * A.order))
 
 module _ (A : Arith) (L : Laws A) (d e : ℕ) (hd : d < A.order) (he : e < A.order) where
   abbrev Pair : Type 0

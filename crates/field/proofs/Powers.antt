@@ -1,33 +1,18 @@
 -- Powers under a product that is associative and has the neutral number 1.
-use Rattle.std.proofs.Common.{◌≡◌, ℕ, zero, suc, ◌+◌, ◌-◌, ◌<◌, ◌≤◌, Bool, true, ◌||◌, eqb, sym, refl, ap, ◌∙◌, ⊎_elim, suc-add, zero-add, arith}
-use Rattle.std.proofs.lemmas.Bool.{eqb-true, or_cases}
+use Rattle.std.proofs.Common.{◌≡◌, ℕ, zero, suc, ◌+◌, ◌/◌, ◌%◌, ◌^◌, ◌<◌, Bool, true, cond, ◌||◌, eqb, sym, refl, ap, ◌∙◌, ⊎_elim, suc-add, zero-add, arith}
+use Rattle.std.proofs.lemmas.Bool.{eqb-true, eq-eqb, ne_eqb, cases_eq, or_cases}
 use Rattle.field.specs.Arith.{power}
+use Rattle.field.specs.Product.{Monoid}
 use Rattle.field.proofs.Checks.{all_below, at}
 
-pub record Monoid (product : ℕ → ℕ → ℕ) (order : ℕ) : Type 0 where
-  pub one_below : 1 < order
-  pub closed : (x y : ℕ) → x < order → y < order → product x y < order
-  pub assoc : (x y z : ℕ) → x < order → y < order → z < order → product (product x y) z ≡ product x (product y z)
-  pub one_left : (x : ℕ) → x < order → product 1 x ≡ x
-  pub one_right : (x : ℕ) → x < order → product x 1 ≡ x
+-- the power n from the power h, where h is n / 2
+abbrev from_half : (ℕ → ℕ → ℕ) → ℕ → ℕ → ℕ → ℕ
+from_half product x n h = cond (eqb (n % 2) 0) (product h h) (product (product h h) x)
 
--- squares s again and again, n times, and multiplies p by each square
-unfoldable pub squares : (ℕ → ℕ → ℕ) → ℕ → ℕ → ℕ → ℕ
-squares product zero s p = p
-squares product (suc n) s p = squares product n (product s s) (product p (product s s))
-
-pub squares_more : (product : ℕ → ℕ → ℕ) (i n s p : ℕ) → i < n → squares product (n - i) s p ≡ squares product (n - (i + 1)) (product s s) (product p (product s s))
-unfolding squares
-squares_more product i n s p h = let e : n - i ≡ suc (n - (i + 1)) = omega arith in ap (λ k. squares product k s p) e
-
-pub squares_all : (product : ℕ → ℕ → ℕ) (i n s p : ℕ) → n ≤ i → squares product (n - i) s p ≡ p
-unfolding squares
-squares_all product i n s p h = let e : n - i ≡ 0 = omega arith in ap (λ k. squares product k s p) e
-
--- the power to which this takes x, from the powers k and m of x
-abbrev pub squares_exponent : ℕ → ℕ → ℕ → ℕ
-squares_exponent zero k m = m
-squares_exponent (suc n) k m = squares_exponent n (k + k) (m + (k + k))
+-- the power n of x, for n below 2^k, by few products
+unfoldable pub by_halves : (ℕ → ℕ → ℕ) → ℕ → ℕ → ℕ → ℕ
+by_halves product zero x n = 1
+by_halves product (suc k) x n = from_half product x n (by_halves product k x (n / 2))
 
 module _ {product : ℕ → ℕ → ℕ} {order : ℕ} (M : Monoid product order) (x : ℕ) (x_below : x < order) where
   pub power_below : (n : ℕ) → power product x n < order
@@ -51,20 +36,24 @@ module _ {product : ℕ → ℕ → ℕ} {order : ℕ} (M : Monoid product order
   unfolding power
   power_one = M.one_right x x_below
 
-  pub squares_is : (n k m : ℕ) → squares product n (power product x k) (power product x m) ≡ power product x (squares_exponent n k m)
-  unfolding squares
-  squares_is zero k m = refl
-  squares_is (suc n) k m =
-      ap (λ s. squares product n s (product (power product x m) s)) (sym (power_add k k))
-      ∙ ap (squares product n (power product x (k + k))) (sym (power_add m (k + k)))
-      ∙ squares_is n (k + k) (m + (k + k))
+  pub power_even : (n : ℕ) → n % 2 ≡ 0 → product (power product x (n / 2)) (power product x (n / 2)) ≡ power product x n
+  power_even n even = sym (power_add (n / 2) (n / 2)) ∙ ap (power product x) (omega arith)
 
-  -- 254 is the sum of the powers of two from 2 to 128
-  pub power_254 : squares product 7 x 1 ≡ power product x 254
-  power_254 = ap (λ s. squares product 7 s 1) (sym power_one) ∙ ap (squares product 7 (power product x 1)) (sym power_zero) ∙ squares_is 7 1 0
+  pub power_odd : (n : ℕ) → (n % 2 ≡ 0 → ⊥) → product (product (power product x (n / 2)) (power product x (n / 2))) x ≡ power product x n
+  power_odd n odd =
+      ap (λ p. product p x) (sym (power_add (n / 2) (n / 2)))
+      ∙ ap (product (power product x (n / 2 + n / 2))) (sym power_one)
+      ∙ sym (power_add (n / 2 + n / 2) 1)
+      ∙ ap (power product x) (omega arith)
 
-  pub power_255 : squares product 7 x x ≡ power product x 255
-  power_255 = ap (λ s. squares product 7 s s) (sym power_one) ∙ squares_is 7 1 1
+  from_half_is : (n : ℕ) → from_half product x n (power product x (n / 2)) ≡ power product x n
+  from_half_is n =
+      ⊎_elim (λ even. rw (eq-eqb (n % 2) 0 even) (power_even n even)) (λ odd. rw (ne_eqb (n % 2) 0 odd) (power_odd n odd)) (cases_eq (n % 2) 0)
+
+  pub by_halves_is : (k n : ℕ) → n < 2 ^ k → by_halves product k x n ≡ power product x n
+  unfolding by_halves
+  by_halves_is zero n h = sym (ap (power product x) (omega arith) ∙ power_zero)
+  by_halves_is (suc k) n h = ap (from_half product x n) (by_halves_is k (n / 2) (omega (arith, h))) ∙ from_half_is n
 
 -- the test that a map answers an inverse of every number below the order but zero
 abbrev pub inverts : (ℕ → ℕ → ℕ) → ℕ → (ℕ → ℕ) → Bool

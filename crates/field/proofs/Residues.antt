@@ -7,7 +7,8 @@ use Rattle.field.specs.Arith.{Laws, Coding, power}
 use Rattle.field.specs.Residues.{residue_product, residue_arith}
 use Rattle.field.specs.declared.residue.Residue.{Residue}
 use Rattle.field.proofs.Codes.{Code, same_code}
-use Rattle.field.proofs.Powers.{Monoid, squares, power_below, power_255, inverts, inverts_at}
+use Rattle.field.specs.Product.{Monoid}
+use Rattle.field.proofs.Powers.{power_below, by_halves, by_halves_is, inverts, inverts_at}
 
 -- a factor may be reduced before the product is
 mul_mod_mod : (x y : ℕ) → (x * (y % 257)) % 257 ≡ (x * y) % 257
@@ -39,13 +40,13 @@ residue_monoid = record {
   one_right = λ x h. product_comm x 1 ∙ product_one x h;
 }
 
-inverse_test : inverts residue_product 257 (λ x. squares residue_product 7 x x) ≡ true
-unfolding squares
+inverse_test : inverts residue_product 257 (λ x. by_halves residue_product 8 x 255) ≡ true
+unfolding by_halves
 inverse_test = refl
 
 power_inverse : (x : ℕ) → x < 257 → (x ≡ 0 → ⊥) → residue_product x (power residue_product x 255) ≡ 1
 power_inverse x h nonzero =
-    ap (residue_product x) (sym (power_255 residue_monoid x h)) ∙ inverts_at residue_product 257 (λ y. squares residue_product 7 y y) inverse_test x h nonzero
+    ap (residue_product x) (sym (by_halves_is residue_monoid x h 8 255 (omega arith))) ∙ inverts_at residue_product 257 (λ y. by_halves residue_product 8 y 255) inverse_test x h nonzero
 
 pub residue_laws : Laws residue_arith
 residue_laws = record {

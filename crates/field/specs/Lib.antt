@@ -1,4 +1,5 @@
 pub mod Arith
+pub mod Product
 pub mod Bytes
 pub mod Residues
 pub mod Doubled

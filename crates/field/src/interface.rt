@@ -35,6 +35,7 @@ pub trait Field: Copy {
     fn inverse(self) -> Option<Self>
         ensures { option_map code result ≡ arith.inverse (code self) };
 
+    // With `from_code`, a method and no `From`: that trait would need a law of its own to tie it to the code.
     fn to_code(self) -> u32
         ensures { result ≡ code self };
 
@@ -46,7 +47,7 @@ pub trait Field: Copy {
     fn order() -> u64
         ensures { result ≡ arith.order };
 
-    // The number by which lines name the field.
+    // The number by which lines name the field; no enum, as every field that is ready for doubling makes one more.
     fn mark() -> u32
         ensures { result ≡ arith.mark };
 }

@@ -5,4 +5,5 @@ pub mod byte;
 pub mod doubled;
 pub mod doubling;
 pub mod interface;
+mod power;
 pub mod residue;

@@ -1,14 +1,13 @@
 -- Laws of checks that are made in turn: what the first fault of all says of each check, and back.
-use Rattle.std.proofs.Common.{◌≡◌, ℕ, zero, suc, ◌+◌, ◌<◌, ◌≤◌, ◌⊎◌, List, [], ◌∷◌, map, get_or, take, IsErrAnd, Some, None, Ok, Err, Option, Result, sym, refl, ap, ◌∙◌, subst, inl, inr, arith, MatchOption}
+use Rattle.std.proofs.Common.{◌≡◌, ℕ, zero, suc, ◌+◌, ◌<◌, ◌≤◌, ◌⊎◌, List, [], ◌∷◌, map, get_or, take, Some, None, Ok, Err, Option, sym, refl, ◌∙◌, subst, inl, inr, arith, MatchOption}
 use Rattle.std.specs.List.{range_with_len, AllByRecursion}
 use Rattle.std.specs.Option.{option_map}
 use Rattle.std.proofs.lemmas.List.FromFn.{get_or-map-range_with_len, length-map-range_with_len, take-map-range_with_len}
 use Rattle.std.proofs.ByRecursion.{All-from_get_or, All-get_or}
-use Rattle.std.proofs.lemmas.Result.{err_from_is_err_and}
 use Rattle.line.specs.Faults.{first, unless}
 
 pub some≢none : {X : Type 0} (x : X) → Some x ≡ None → ⊥
-some≢none x e = let z : ◌≡◌ {A = ℕ} 0 1 = cc in omega arith
+some≢none x e = cc
 
 pub either : {X : Type 0} (o : Option X) → ((x : X) × (o ≡ Some x)) ⊎ (o ≡ None)
 either None = inr refl
@@ -88,14 +87,14 @@ module _ {X : Type 0} (P : ℕ → Type 0) (R : X → Type 0) (f : ℕ → Optio
 
 -- What an answer says of the fault
 
-pub none_from_ok : {X F : Type 0} (o : Option F) (x y : X) → Ok y ≡ unless o x → (o ≡ None) × (y ≡ x)
-none_from_ok None x y e = (refl, cc)
-none_from_ok (Some fault) x y e = let z : ◌≡◌ {A = ℕ} 0 1 = cc in absurd (omega arith)
+pub no_fault : {X F : Type 0} (o : Option F) (x y : X) → Ok y ≡ unless o x → o ≡ None
+no_fault None x y e = refl
+no_fault (Some fault) x y e = cc
 
-pub some_from_err : {X F : Type 0} (o : Option F) (x : X) (fault : F) → Err fault ≡ unless o x → o ≡ Some fault
-some_from_err None x fault e = let z : ◌≡◌ {A = ℕ} 0 1 = cc in absurd (omega arith)
-some_from_err (Some found) x fault e = cc
+pub was_read : {X F : Type 0} (o : Option F) (x y : X) → Ok y ≡ unless o x → y ≡ x
+was_read None x y e = cc
+was_read (Some fault) x y e = cc
 
--- the exit of a `?` answers the fault that was found
-pub at_exit : {X F : Type 0} (r : Result X F) (o : Option F) (x : X) (fault : F) → IsErrAnd r (λ y. y ≡ fault) → o ≡ Some fault → r ≡ unless o x
-at_exit r o x fault by e = let p = err_from_is_err_and r by in p.1 ∙ ap Err p.2 ∙ rw e
+pub the_fault : {X F : Type 0} (o : Option F) (x : X) (fault : F) → Err fault ≡ unless o x → o ≡ Some fault
+the_fault None x fault e = cc
+the_fault (Some found) x fault e = cc

@@ -1,8 +1,8 @@
 -- Hex digits: what a byte that writes one tells, and numbers of any count of digits, written and read from the last digit on.
-use Rattle.std.proofs.Common.{◌≡◌, ℕ, zero, suc, ◌+◌, ◌-◌, ◌*◌, ◌/◌, ◌%◌, ◌^◌, ◌<◌, ◌≤◌, List, [], ◌∷◌, ◌++◌, length, get_or, take, drop, set, Some, unwrap_or, sym, refl, ap, ◌∙◌, subst, inl, inr, pow-suc, arith}
-use native.Mathlib.Nat.{div-div-eq-div-mul}
+use Rattle.std.proofs.Common.{◌≡◌, ℕ, zero, suc, ◌+◌, ◌*◌, ◌/◌, ◌%◌, ◌^◌, ◌<◌, ◌≤◌, List, [], ◌∷◌, ◌++◌, length, get_or, take, Some, unwrap_or, sym, refl, ap, ◌∙◌, inl, inr, pow-suc, arith, below_more}
+use native.Mathlib.Nat.{div-div-eq-div-mul, pow-le-pow_right}
 use lib.Arith.{digits_div, digits_mod}
-use Rattle.std.proofs.lemmas.List.{take_more, get_or_past, length_push, get_or_append_left, get_or_push, drop-set, append_assoc}
+use Rattle.std.proofs.lemmas.List.{take_more, get_or_past, length_push, get_or_append_left, get_or_push}
 use Rattle.std.proofs.lemmas.Bool.{cases_lt}
 use Rattle.std.proofs.lemmas.Bool.Decides.{nat_tests}
 use Rattle.line.specs.Digits.{digit, digit_value, eight, value_after}
@@ -23,10 +23,7 @@ pub digit_within : (text : List ℕ) (place d : ℕ) → digit_value (get_or tex
 digit_within text place d e =
     elim (cases_lt place (length text)) [
       | inl l ↦ l
-      | inr g ↦
-          let z : get_or text place 0 ≡ 0 = get_or_past text place 0 g in
-          let e' : digit_value 0 ≡ Some d = subst (λ b. digit_value b ≡ Some d) z e in
-          let no : ◌≡◌ {A = ℕ} 0 1 = cc in absurd (omega arith)
+      | inr g ↦ let e' = rw (get_or_past text place 0 g) at e in absurd cc
     ]
 
 -- Numbers of any count of digits
@@ -47,17 +44,6 @@ eight_is n = simp div-div-eq-div-mul
 pub length_last_digits : (k n : ℕ) → length (last_digits k n) ≡ k
 length_last_digits zero n = refl
 length_last_digits (suc k) n = length_push (last_digits k (n / 16)) (digit (n % 16)) ∙ omega (arith, length_last_digits k (n / 16))
-
--- the last digit but those that stand in a list's rest is set
-pub last_digits_set : (i n : ℕ) (xs : List ℕ) → 0 < i → i ≤ length xs → last_digits (i - 1) (n / 16) ++ drop (i - 1) (set xs (i - 1) (digit (n % 16))) ≡ last_digits i n ++ drop i xs
-last_digits_set zero n xs h l = absurd (omega arith)
-last_digits_set (suc i) n xs h l =
-    let less : suc i - 1 ≡ i = omega arith in
-    let next : i + 1 ≡ suc i = omega arith in
-    rw less
-    (ap (λ ys. last_digits i (n / 16) ++ ys) (drop-set xs i (digit (n % 16)) l)
-    ∙ ap (λ j. last_digits i (n / 16) ++ (digit (n % 16) ∷ drop j xs)) next
-    ∙ sym (append_assoc (last_digits i (n / 16)) (digit (n % 16) ∷ []) (drop (suc i) xs)))
 
 -- a number is read from its digits
 pub value_last_digits : (k n : ℕ) → n < 16 ^ k → value_after 0 (last_digits k n) ≡ n
@@ -90,6 +76,18 @@ value_small xs (suc n) h =
     let step : value_after 0 (take (suc n) xs) ≡ value_after 0 (take n xs) * 16 + d = ap (λ m. value_after 0 (take m xs)) next ∙ value_more xs n d e in
     let before = value_small xs n (λ k l. h k (omega arith)) in
     omega arith
+
+-- and their number is v
+abbrev pub Digits : List ℕ → ℕ → ℕ → Type 0
+Digits xs n v = Hexes xs n × (v ≡ value_after 0 (take n xs))
+
+pub digit_more : (xs : List ℕ) (n v d : ℕ) → Digits xs n v → digit_value (get_or xs n 0) ≡ Some d → Digits xs (n + 1) (v * 16 + d)
+digit_more xs n v d digits e = (below_more _ _ digits.0 (d, e), ap (λ m. m * 16 + d) digits.1 ∙ sym (value_more xs n d e))
+
+-- eight digits fit 32 bits
+pub digits_fit : (xs : List ℕ) (n v : ℕ) → n ≤ 8 → Digits xs n v → v < 2 ^ 32
+digits_fit xs n v few digits =
+    let most : 16 ^ n ≤ 16 ^ 8 = pow-le-pow_right (omega arith) few in omega (arith, value_small xs n digits.0, digits.1)
 
 -- the digits that were read are those that write the number
 pub last_digits_value : (xs : List ℕ) (n : ℕ) → Hexes xs n → last_digits n (value_after 0 (take n xs)) ≡ take n xs

@@ -1,15 +1,14 @@
 -- A kiosk line that is cut short is refused at its end, with the cause of what is missing there.
-use Rattle.std.proofs.Common.{◌≡◌, ℕ, ◌+◌, ◌*◌, ◌^◌, ◌<◌, ◌≤◌, List, [], ◌∷◌, length, take, drop, Some, None, Option, Result, sym, refl, ap, ◌∙◌, subst, arith}
-use Rattle.std.specs.List.{flat_map}
+use Rattle.std.proofs.Common.{◌≡◌, ℕ, ◌+◌, ◌*◌, ◌^◌, ◌<◌, ◌≤◌, List, [], ◌∷◌, length, take, drop, Some, None, Err, Option, Result, sym, refl, ap, ◌∙◌, subst, arith}
 use Rattle.std.proofs.lemmas.List.{length-drop}
 use Rattle.std.proofs.lemmas.Bool.Decides.{nat_tests}
 use Rattle.line.specs.declared.refusal.Cause.TheVariants.{WrongLetter, NoTab, NoLineFeed}
 use Rattle.line.specs.declared.refusal.LineFault.{LineFault}
-use Rattle.line.specs.Faults.{first, unless}
-use Rattle.line.specs.Digits.{eight, number_at}
+use Rattle.line.specs.Faults.{first}
+use Rattle.line.specs.Digits.{number_at}
 use Rattle.line.specs.Steps.{fault, byte_fault, codes_fault, end_fault}
-use Rattle.line.specs.KioskLine.{share_size, kiosk_line, kiosk_head, kiosk_codes, head_fault, kiosk_fault, Read, reading, missing, CutShort}
-use Rattle.line.proofs.Checks.{none_from_ok, Passes, passes}
+use Rattle.line.specs.KioskLine.{share_size, kiosk_line, kiosk_head, head_fault, kiosk_fault, Read, reading, missing, CutShort}
+use Rattle.line.proofs.Checks.{no_fault, was_read, Passes, passes}
 use Rattle.line.proofs.Cut.{AtCut, HexBetween, number_cut, byte_cut, field_cut, codes_cut}
 use Rattle.line.proofs.KioskLaws.{mark_bounds, tour_bounds, degree_bounds, lanes_bounds, number_bounds, head_each, tab_check, line_each}
 use Rattle.line.proofs.KioskPlaces.{head_passes}
@@ -85,10 +84,8 @@ pub cut_short : (line mark order : ℕ) (text : List ℕ) (answer : Result Read 
 cut_short line mark order text answer mark_fits e head codes n order_fits form short is =
     let whole = kiosk_line head codes in
     let back = (reads_back head codes (omega (arith, form.mark_is)) line mark order order_fits form).0 in
-    let read = none_from_ok (kiosk_fault line mark order whole) (record { head = kiosk_head whole; place = 47; part = kiosk_codes whole }) (record { head = head; place = 47; part = flat_map eight codes }) (sym back) in
-    let found : kiosk_fault line mark order (take n whole) ≡ Some (fault line n (missing (share_size (kiosk_head whole)) n)) = found_is (kiosk_fault line mark order (take n whole)) (fault line n (missing (share_size (kiosk_head whole)) n)) (line_cut line mark order n whole read.0 short) in
-    let head_is : head ≡ kiosk_head whole = ap (λ (r : Read). r.head) read.1 in
-    e
-    ∙ ap (reading line mark order) is
-    ∙ ap (λ o. unless o (record { head = kiosk_head (take n whole); place = 47; part = kiosk_codes (take n whole) })) found
-    ∙ ap (λ h. unless (Some (fault line n (missing (share_size h) n))) (record { head = kiosk_head (take n whole); place = 47; part = kiosk_codes (take n whole) })) (sym head_is)
+    let fine = no_fault _ _ _ (sym back) in
+    let read = was_read _ _ _ (sym back) in
+    let found : kiosk_fault line mark order (take n whole) ≡ Some (fault line n (missing (share_size (kiosk_head whole)) n)) = found_is (kiosk_fault line mark order (take n whole)) (fault line n (missing (share_size (kiosk_head whole)) n)) (line_cut line mark order n whole fine short) in
+    let head_is : head ≡ kiosk_head whole = ap (λ (r : Read). r.head) read in
+    e ∙ rw (is, found) (ap (λ h. Err (fault line n (missing (share_size h) n))) (sym head_is))

@@ -1,12 +1,15 @@
 -- Whatever text is read as a kiosk line is the line written from what was read.
-use Rattle.std.proofs.Common.{◌≡◌, ℕ, ◌+◌, ◌*◌, ◌<◌, ◌≤◌, List, [], ◌∷◌, ◌++◌, length, take, drop, None, sym, ap, ◌∙◌, subst, mul-le-mul, arith}
+use Rattle.std.proofs.Common.{◌≡◌, ℕ, ◌+◌, ◌*◌, ◌<◌, ◌≤◌, List, [], ◌∷◌, ◌++◌, length, take, drop, None, sym, ap, ◌∙◌, subst, mul-le-mul, arith, IfOk, Ok, Err, Result}
 use Rattle.std.specs.List.{flat_map, AllByRecursion}
 use Rattle.std.proofs.lemmas.List.FromFn.{length-map-range_with_len}
 use Rattle.std.proofs.lemmas.List.{take_at}
 use Rattle.line.specs.declared.refusal.Cause.TheVariants.{WrongLetter, NoTab, NoLineFeed}
+use Rattle.line.specs.declared.refusal.LineFault.{LineFault}
+use Rattle.line.specs.declared.kiosk_line.KioskLine.{KioskLine}
+use Rattle.line.proofs.Checks.{no_fault, was_read}
 use Rattle.line.specs.Digits.{eight, number_at}
 use Rattle.line.specs.Steps.{codes_in, Readable}
-use Rattle.line.specs.KioskLine.{share_size, kiosk_front, kiosk_line, kiosk_head, head_fault, kiosk_fault, Exact}
+use Rattle.line.specs.KioskLine.{share_size, kiosk_front, kiosk_line, kiosk_head, head_fault, kiosk_fault, Read, reading, seen, Exact}
 use Rattle.line.proofs.Written.{length_codes}
 use Rattle.line.proofs.Standing.{Field, byte_stands, end_stands, field_stands, codes_from, codes_stand, codes_in_joined, codes_readable}
 use Rattle.line.proofs.KioskLaws.{front_then, mark_bounds, tour_bounds, degree_bounds, lanes_bounds, number_bounds, head_each, line_each}
@@ -50,7 +53,7 @@ size_most line mark order text e =
     let each : number_at text 20 + 1 ≤ 10 = omega (arith, head.degree.range.below) in
     mul-le-mul rows each
 
-pub exact : (line mark order : ℕ) (text : List ℕ) → kiosk_fault line mark order text ≡ None → Exact mark order text (kiosk_head text) (take (8 * share_size (kiosk_head text)) (drop 47 text))
+exact : (line mark order : ℕ) (text : List ℕ) → kiosk_fault line mark order text ≡ None → Exact mark order text (kiosk_head text) (take (8 * share_size (kiosk_head text)) (drop 47 text))
 unfolding kiosk_line
 exact line mark order text e =
     let each = line_each line mark order text e in
@@ -85,3 +88,9 @@ exact line mark order text e =
       };
       readable = subst Readable (sym part_is) (codes_readable codes found.fit);
     }
+
+-- so what a reader hands out is exact
+pub exact_read : (line mark order : ℕ) (text : List ℕ) (r : Result KioskLine LineFault) → seen r ≡ reading line mark order text → IfOk r (λ l. Exact mark order text l.head l.codes.text.now)
+exact_read line mark order text (Err f) e = tt
+exact_read line mark order text (Ok l) e =
+    subst (λ (r : Read). Exact mark order text r.head r.part) (sym (was_read _ _ _ e)) (exact line mark order text (no_fault _ _ _ e))

@@ -1,18 +1,15 @@
 -- The kiosk line: its bytes, and its checks taken together.
-use Rattle.std.proofs.Common.{◌≡◌, ℕ, ◌+◌, ◌*◌, ◌^◌, List, [], ◌∷◌, ◌++◌, length, get_or, take, drop, IsErrAnd, IfOk, Some, None, Err, Option, Result, sym, ap, ◌∙◌, subst, arith}
+use Rattle.std.proofs.Common.{◌≡◌, ℕ, ◌+◌, ◌*◌, ◌^◌, List, [], ◌∷◌, ◌++◌, length, drop, None, Option, ap, ◌∙◌, arith}
 use Rattle.std.specs.List.{AllByRecursion, flat_map}
 use Rattle.line.specs.declared.refusal.Cause.TheVariants.{WrongLetter, NoTab, NoLineFeed, OutOfRange, OtherMark}
 use Rattle.line.specs.declared.refusal.LineFault.{LineFault}
 use Rattle.std.proofs.lemmas.List.{append_assoc, length-append}
-use Rattle.std.proofs.lemmas.Result.{err_from_is_err_and}
-use Rattle.line.specs.declared.kiosk_line.KioskLine.{KioskLine}
-use Rattle.line.specs.Faults.{unless}
 use Rattle.line.specs.declared.steps.Bounds.{Bounds}
 use Rattle.line.specs.declared.kiosk_line.KioskHead.{KioskHead}
 use Rattle.line.specs.Digits.{eight}
 use Rattle.line.specs.Steps.{byte_fault, field_fault, codes_fault, end_fault}
-use Rattle.line.specs.KioskLine.{share_size, kiosk_front, kiosk_line, kiosk_head, head_fault, kiosk_fault, line_length, seen, reading, Exact}
-use Rattle.line.proofs.Checks.{first_at, first_all, all_none, at_exit, some_from_err}
+use Rattle.line.specs.KioskLine.{share_size, kiosk_front, kiosk_line, kiosk_head, head_fault, kiosk_fault, line_length}
+use Rattle.line.proofs.Checks.{first_all, all_none}
 use Rattle.line.proofs.Numbers.{length_eight}
 use Rattle.line.proofs.Written.{Front, length_codes}
 
@@ -87,15 +84,6 @@ module _ (line mark order : ℕ) (text : List ℕ) where
   abbrev pub head_checks : List (Option LineFault)
   head_checks = letter_check ∷ mark_check ∷ tour_check ∷ degree_check ∷ lanes_check ∷ number_check ∷ []
 
-  head_found : (k : ℕ) (f : LineFault) → AllByRecursion (λ c. c ≡ None) (take k head_checks) → get_or head_checks k None ≡ Some f → head_fault line mark order text ≡ Some f
-  unfolding head_fault
-  head_found k f none e = first_at head_checks k f none e
-
-  -- what the exit behind the check with this index answers
-  pub head_exit : {X : Type 0} (k : ℕ) (r : Result KioskHead LineFault) (x : X) (f : LineFault) → IsErrAnd r (λ y. y ≡ f) → AllByRecursion (λ c. c ≡ None) (take k head_checks) → Err f ≡ unless (get_or head_checks k None) x → r ≡ unless (head_fault line mark order text) (kiosk_head text)
-  head_exit k r x f by none e =
-      at_exit r (head_fault line mark order text) (kiosk_head text) f by (head_found k f none (some_from_err (get_or head_checks k None) x f e))
-
   pub head_passed : AllByRecursion (λ c. c ≡ None) head_checks → head_fault line mark order text ≡ None
   unfolding head_fault
   head_passed none = first_all head_checks none
@@ -118,19 +106,6 @@ module _ (line mark order : ℕ) (text : List ℕ) where
 
   abbrev pub line_checks : List (Option LineFault)
   line_checks = head_fault line mark order text ∷ tab_check ∷ codes_check ∷ line_feed_check ∷ end_check ∷ []
-
-  line_found : (k : ℕ) (f : LineFault) → AllByRecursion (λ c. c ≡ None) (take k line_checks) → get_or line_checks k None ≡ Some f → kiosk_fault line mark order text ≡ Some f
-  unfolding kiosk_fault
-  line_found k f none e = first_at line_checks k f none e
-
-  -- what the exit behind the check with this index answers
-  pub line_exit : {X : Type 0} (k : ℕ) (r : Result KioskLine LineFault) (x : X) (f : LineFault) → IsErrAnd r (λ y. y ≡ f) → AllByRecursion (λ c. c ≡ None) (take k line_checks) → Err f ≡ unless (get_or line_checks k None) x → (seen r ≡ reading line mark order text) × IfOk r (λ l. Exact mark order text l.head l.codes.text.now)
-  line_exit k r x f by none e =
-      let found = line_found k f none (some_from_err (get_or line_checks k None) x f e) in
-      let p = err_from_is_err_and r by in (
-        ap seen (p.1 ∙ ap Err p.2) ∙ rw found,
-        subst (λ a. IfOk a (λ l. Exact mark order text l.head l.codes.text.now)) (sym p.1) tt,
-      )
 
   pub line_passed : AllByRecursion (λ c. c ≡ None) line_checks → kiosk_fault line mark order text ≡ None
   unfolding kiosk_fault

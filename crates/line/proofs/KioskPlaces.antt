@@ -53,7 +53,7 @@ module _ (line mark order : ℕ) (text : List ℕ) where
 -- what holds of the fault holds of what the reader answers
 found_by : {P : Type 0} {R : LineFault → Type 0} (r : Result KioskLine LineFault) (o : Option LineFault) (x : Read) → seen r ≡ unless o x → Passes P R o → IfErr r R
 found_by (Ok l) o x e passed = tt
-found_by (Err f) None x e passed = let z : ◌≡◌ {A = ℕ} 0 1 = cc in absurd (omega arith)
+found_by (Err f) None x e passed = absurd cc
 found_by {R = R} (Err f) (Some g) x e passed = let same : g ≡ f = cc in subst R same passed.by
 
 pub found : (line mark order : ℕ) (text : List ℕ) (r : Result KioskLine LineFault) → seen r ≡ reading line mark order text → IfErr r (Found line text)

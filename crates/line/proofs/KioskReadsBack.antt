@@ -1,5 +1,5 @@
 -- Every kiosk line written, of numbers and codes in form, reads back as its numbers and codes.
-use Rattle.std.proofs.Common.{◌≡◌, ℕ, ◌+◌, ◌*◌, ◌^◌, ◌<◌, ◌≤◌, List, [], ◌∷◌, ◌++◌, length, take, drop, None, Ok, sym, refl, ap, ◌∙◌, arith}
+use Rattle.std.proofs.Common.{◌≡◌, ℕ, ◌+◌, ◌*◌, ◌^◌, ◌<◌, ◌≤◌, List, [], ◌∷◌, ◌++◌, length, take, drop, None, sym, refl, ap, ◌∙◌, arith}
 use Rattle.std.specs.List.{flat_map, AllByRecursion}
 use Rattle.std.proofs.ByRecursion.{All-weaker}
 use Rattle.std.proofs.lemmas.List.{take_at}
@@ -7,7 +7,6 @@ use Rattle.line.specs.declared.refusal.Cause.TheVariants.{WrongLetter, NoTab, No
 use Rattle.line.specs.declared.kiosk_line.KioskHead.{KioskHead}
 use Rattle.line.specs.Digits.{eight, number_at}
 use Rattle.line.specs.Steps.{codes_fault, byte_fault, end_fault}
-use Rattle.line.specs.Faults.{unless}
 use Rattle.line.specs.KioskLine.{share_size, InForm, kiosk_line, kiosk_head, head_fault, kiosk_fault, ReadsBack}
 use Rattle.line.proofs.Written.{length_codes}
 use Rattle.line.proofs.Standing.{InRange, behind, byte_read, end_read, field_behind, field_number, field_read, codes_behind, codes_read, codes_in_joined}
@@ -157,8 +156,6 @@ reads_back head codes mark_fits line mark order order_fits form =
     let none = line_read line mark order head codes mark_fits order_fits form in
     let is = head_is line mark order head codes mark_fits order_fits form in
     let part = part_is line mark order head codes mark_fits order_fits form in (
-      ap (λ o. unless o (record { head = kiosk_head (kiosk_line head codes); place = 47; part = take (8 * share_size (kiosk_head (kiosk_line head codes))) (drop 47 (kiosk_line head codes)) })) none
-          ∙ ap (λ h. Ok (record { head = h; place = 47; part = take (8 * share_size (kiosk_head (kiosk_line head codes))) (drop 47 (kiosk_line head codes)) })) is
-          ∙ ap (λ p. Ok (record { head = head; place = 47; part = p })) part,
+      rw (none, part, is),
       codes_in_joined codes (codes_fit line mark order head codes mark_fits order_fits form),
     )

@@ -24,12 +24,12 @@ digits_fault_none line place text h =
     counted_none (λ i. digit_fault line text (place + i)) 8 (digits_before line place 8 text h)
 
 -- it finds its fault at the first byte that is no digit
-pub digits_fault_some : (line place i : ℕ) (text : List ℕ) → i < 8 → Hexes (drop place text) i → digit_value (get_or text (place + i) 0) ≡ None → digits_fault line text place ≡ Some (record { line = line; place = place + i })
+pub digits_fault_some : (line place i at : ℕ) (text : List ℕ) → place + i ≡ at → i < 8 → Hexes (drop place text) i → digit_value (get_or text at 0) ≡ None → digits_fault line text place ≡ Some (record { line = line; place = at })
 unfolding digits_fault
-digits_fault_some line place i text l h e =
-    counted_some (λ j. digit_fault line text (place + j)) 8 i (record { line = line; place = place + i }) l
+digits_fault_some line place i at text is l h e =
+    counted_some (λ j. digit_fault line text (place + j)) 8 i (record { line = line; place = at }) l
     (digits_before line place i text h)
-    (digit_fault_some line (place + i) text e)
+    (ap (digit_fault line text) is ∙ digit_fault_some line at text e)
 
 -- where it finds no fault, eight digits stand
 hexes_from : (line place : ℕ) (text : List ℕ) → digits_fault line text place ≡ None → Hexes (drop place text) 8

@@ -1,5 +1,5 @@
 -- The checks that a line is made of: when each finds its fault.
-use Rattle.std.proofs.Common.{◌≡◌, ℕ, ◌+◌, ◌*◌, ◌/◌, ◌<◌, ◌≤◌, ◌⊎◌, List, length, Some, None, Ok, Option, sym, ap, ◌∙◌, arith}
+use Rattle.std.proofs.Common.{◌≡◌, ℕ, ◌+◌, ◌*◌, ◌/◌, ◌<◌, ◌≤◌, List, length, Some, None, Option, arith}
 use Rattle.std.specs.Result.{result_ok}
 use Rattle.std.proofs.lemmas.Bool.{cond_below}
 use Rattle.std.proofs.lemmas.Bool.Decides.{nat_tests}
@@ -9,16 +9,12 @@ use Rattle.line.specs.declared.refusal.LineFault.{LineFault}
 use Rattle.line.specs.declared.steps.Bounds.{Bounds}
 use Rattle.line.specs.Faults.{no_digit, unless}
 use Rattle.line.specs.Digits.{number_at, digits_fault}
-use Rattle.line.specs.Steps.{fault, byte_fault, bounds_fault, value_fault, field_fault, codes_fault, code_at}
-use Rattle.line.proofs.Checks.{first_one, none_from_ok, counted_none, counted_some, counted_each}
+use Rattle.line.specs.Steps.{byte_fault, bounds_fault, value_fault, field_fault, codes_fault, code_at}
+use Rattle.line.proofs.Checks.{first_one, counted_none, counted_some, counted_each}
 
 pub bounds_fault_none : (line place n : ℕ) (bounds : Bounds) → bounds.least ≤ n → n < bounds.below → bounds_fault line place bounds n ≡ None
 unfolding bounds_fault
 bounds_fault_none line place n bounds least below = grind (arith, nat_tests)
-
-pub bounds_fault_some : (line place n : ℕ) (bounds : Bounds) → ((bounds.least ≤ n) × (bounds.below ≤ n)) ⊎ (n < bounds.least) → bounds_fault line place bounds n ≡ Some (fault line place bounds.cause)
-unfolding bounds_fault
-bounds_fault_some line place n bounds out = grind (arith, nat_tests)
 
 module _ (line place : ℕ) (text : List ℕ) (bounds : Bounds) where
   pub value_fault_digits : (d : DigitFault) → digits_fault line text place ≡ Some d → value_fault line text place bounds ≡ Some (no_digit d)
@@ -28,16 +24,6 @@ module _ (line place : ℕ) (text : List ℕ) (bounds : Bounds) where
   pub value_fault_bounds : digits_fault line text place ≡ None → value_fault line text place bounds ≡ bounds_fault line place bounds (number_at text place)
   unfolding value_fault
   value_fault_bounds e = rw (e, value_fault) (first_one (bounds_fault line place bounds (number_at text place)))
-
-  -- a number that was read is judged by its range
-  pub value_fault_read : (n : ℕ) → Ok n ≡ unless (digits_fault line text place) (number_at text place) → (n ≡ number_at text place) × (value_fault line text place bounds ≡ bounds_fault line place bounds n)
-  value_fault_read n e =
-      let read = none_from_ok (digits_fault line text place) (number_at text place) n e in
-      (read.1, value_fault_bounds read.0 ∙ ap (bounds_fault line place bounds) (sym read.1))
-
-  pub field_fault_tab : (f : LineFault) → byte_fault line text place 9 NoTab ≡ Some f → field_fault line text place bounds ≡ Some f
-  unfolding field_fault
-  field_fault_tab f e = rw (e, field_fault)
 
   pub field_fault_value : byte_fault line text place 9 NoTab ≡ None → field_fault line text place bounds ≡ value_fault line text (place + 1) bounds
   unfolding field_fault

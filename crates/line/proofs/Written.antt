@@ -1,8 +1,8 @@
 -- A buffer that is written from its front on: what is written so far, and behind it what the buffer held.
-use Rattle.std.proofs.Common.{◌≡◌, ℕ, suc, ◌+◌, ◌-◌, ◌*◌, ◌<◌, ◌≤◌, List, [], ◌∷◌, ◌++◌, length, get_or, take, drop, set, sym, refl, ap, ◌∙◌, arith}
+use Rattle.std.proofs.Common.{◌≡◌, ℕ, suc, ◌+◌, ◌-◌, ◌*◌, ◌<◌, ◌≤◌, List, [], ◌∷◌, ◌++◌, length, take, drop, set, sym, refl, ap, ◌∙◌, arith}
 use borrow.Rule.Slice.PartMut.{put_mid}
 use Rattle.std.specs.List.{flat_map}
-use Rattle.std.proofs.lemmas.List.{append-nil, append_assoc, length-append, length-drop, take_at, take_more, take_rest, drop_at, drop_all, drop-drop, set_split, flat_map_more}
+use Rattle.std.proofs.lemmas.List.{append-nil, append_assoc, length-append, length-drop, take_at, take_rest, drop_at, drop_all, drop-drop, set_split}
 use Rattle.line.specs.Digits.{eight}
 use Rattle.line.proofs.Numbers.{length_eight}
 
@@ -59,6 +59,3 @@ lent_at n k more buffer lent l e =
 pub length_codes : (codes : List ℕ) → length (flat_map eight codes) ≡ 8 * length codes
 length_codes [] = refl
 length_codes (c ∷ codes) = length-append (eight c) (flat_map eight codes) ∙ omega (arith, length_eight c, length_codes codes)
-
-pub codes_more : (codes : List ℕ) (i : ℕ) → i < length codes → flat_map eight (take i codes) ++ eight (get_or codes i 0) ≡ flat_map eight (take (i + 1) codes)
-codes_more codes i l = flat_map_more eight [] (take i codes) (get_or codes i 0) ∙ ap (flat_map eight) (sym (take_more codes i 0 l))

@@ -4,10 +4,11 @@ ghost use Rattle.std.specs.List.{flat_map};
 ghost use Rattle.line.specs.Digits.{eight};
 ghost use Rattle.line.specs.Steps.{code_at};
 
-use crate::digits::{number, write_number};
+use crate::digits::hex;
+use crate::steps::LineText;
 
 // Codes as a part of the text of a line, which begins at this place of the line.
-#[derive(Clone, Copy)]
+#[derive(Clone, Copy, PartialEq, Eq, Debug)]
 pub struct CodeText<'a> {
     pub place: usize,
     pub text: &'a [u8],
@@ -18,11 +19,14 @@ impl CodeText<'_> {
     pub fn get(&self, index: usize) -> Option<u32>
         ensures { result ≡ code_at self.now.text.now index }
     {
-        if index < self.text.len() / 8 {
-            number(1, self.text, 8 * index).ok()
-        } else {
-            None
+        if index >= self.text.len() / 8 {
+            return None;
         }
+        let part = LineText {
+            line: 1,
+            bytes: self.text,
+        };
+        part.number(8 * index).ok()
     }
 }
 
@@ -31,7 +35,8 @@ pub(crate) fn write_codes(codes: &[u32], buffer: &mut [u8])
     requires { 8 * length codes.now ≤ length buffer.old }
     ensures { buffer.new ≡ flat_map eight codes.now ++ drop (8 * length codes.now) buffer.old }
 {
+    // By index, since a proof learns nothing of what is written through `chunks_exact_mut`.
     for (i, code) in codes.iter().enumerate() {
-        write_number(*code, &mut buffer[8 * i..]);
+        buffer[8 * i..8 * i + 8].copy_from_slice(&hex(*code));
     }
 }

@@ -9,7 +9,14 @@ use crate::codes::{CodeText, write_codes};
 use crate::digits::write_field;
 use crate::number::KioskNumber;
 use crate::refusal::{Cause, LineFault, Refusal};
-use crate::steps::{Bounds, DEGREE, LANES, TOUR, byte, codes, end, field};
+use crate::steps::{Bounds, DEGREE, FROM_ONE, LANES, LineText};
+
+// The numbers by which a line's reader knows a field.
+#[derive(Clone, Copy, PartialEq, Eq, Debug)]
+pub struct FieldNumbers {
+    pub mark: u32,
+    pub order: u64,
+}
 
 // The numbers at the head of a kiosk line: the field's mark, the tour, t (the degree of the share's polynomials),
 // m (the lanes, separate copies of the scheme) and the kiosk's own number.
@@ -23,7 +30,7 @@ pub struct KioskHead {
 }
 
 // A line as it is read: its numbers, and its codes where they stand in the text.
-#[derive(Clone, Copy)]
+#[derive(Clone, Copy, PartialEq, Eq, Debug)]
 pub struct KioskLine<'a> {
     pub head: KioskHead,
     pub codes: CodeText<'a>,
@@ -33,26 +40,25 @@ pub struct KioskLine<'a> {
 const HEAD: usize = 47;
 
 // Reads a line up to the kiosk's number.
-fn head(line: u32, mark: u32, order: u64, text: &[u8]) -> Result<KioskHead, LineFault>
-    ensures { result ≡ unless (head_fault line mark order text.now) (kiosk_head text.now) }
+fn head(text: &LineText<'_>, over: FieldNumbers) -> Result<KioskHead, LineFault>
+    ensures { result ≡ unless (head_fault text.now.line over.mark over.order text.now.bytes.now) (kiosk_head text.now.bytes.now) }
 {
-    byte(line, text, 0, b'k', Cause::WrongLetter)?;
-    let own = mark as u64;
+    text.byte(0, b'k', Cause::WrongLetter)?;
+    let own = u64::from(over.mark);
     let own_mark = Bounds {
         least: own,
         below: own + 1,
         cause: Cause::OtherMark,
     };
-    let mark = field(line, text, 1, own_mark)?;
-    let tour = field(line, text, 10, TOUR)?;
-    let degree = field(line, text, 19, DEGREE)?;
-    let lanes = field(line, text, 28, LANES)?;
+    let mark = text.field(1, own_mark)?;
+    let tour = text.field(10, FROM_ONE)?;
+    let degree = text.field(19, DEGREE)?;
+    let lanes = text.field(28, LANES)?;
     let kiosks = Bounds {
-        least: 1,
-        below: order,
-        cause: Cause::OutOfRange,
+        below: over.order,
+        ..FROM_ONE
     };
-    let number = field(line, text, 37, kiosks)?;
+    let number = text.field(37, kiosks)?;
     Ok(KioskHead {
         mark,
         tour,
@@ -62,33 +68,35 @@ fn head(line: u32, mark: u32, order: u64, text: &[u8]) -> Result<KioskHead, Line
     })
 }
 
+// Reads a whole line.
+fn whole_line<'a>(text: &LineText<'a>, over: FieldNumbers) -> Result<KioskLine<'a>, LineFault>
+    ensures { seen result ≡ reading text.now.line over.mark over.order text.now.bytes.now }
+{
+    let head = head(text, over)?;
+    let size = head.share_size();
+    let end_of_codes = HEAD + 8 * size;
+    text.byte(HEAD - 1, b'\t', Cause::NoTab)?;
+    text.codes(HEAD, size, over.order)?;
+    text.byte(end_of_codes, b'\n', Cause::NoLineFeed)?;
+    text.end(end_of_codes + 1)?;
+    Ok(KioskLine {
+        head,
+        codes: CodeText {
+            place: HEAD,
+            text: &text.bytes[HEAD..end_of_codes],
+        },
+    })
+}
+
 impl<'a> KioskLine<'a> {
-    // Reads the line with this number, counted from 1, over a field of this mark and order.
-    pub fn read(
-        line: u32,
-        mark: u32,
-        order: u64,
-        text: &'a [u8],
-    ) -> Result<KioskLine<'a>, LineFault>
-        ensures answer { seen result ≡ reading line mark order text.now }
-        ensures exact { IfOk result (λ l. Exact mark order text.now l.head l.codes.text.now) }
+    // Reads the line with this number, counted from 1, over a field.
+    pub fn read(line: u32, over: FieldNumbers, text: &'a [u8]) -> Result<KioskLine<'a>, LineFault>
+        ensures answer { seen result ≡ reading line over.mark over.order text.now }
+        ensures exact { IfOk result (λ l. Exact over.mark over.order text.now l.head l.codes.text.now) }
         ensures found { IfErr result (λ f. Found line text.now f) }
-        ensures cut_short { CutShort line mark order text.now (seen result) }
+        ensures cut_short { CutShort line over.mark over.order text.now (seen result) }
     {
-        let head = head(line, mark, order, text)?;
-        let size = head.share_size();
-        let end_of_codes = HEAD + 8 * size;
-        byte(line, text, HEAD - 1, b'\t', Cause::NoTab)?;
-        codes(line, text, HEAD, size, order)?;
-        byte(line, text, end_of_codes, b'\n', Cause::NoLineFeed)?;
-        end(line, text, end_of_codes + 1)?;
-        Ok(KioskLine {
-            head,
-            codes: CodeText {
-                place: HEAD,
-                text: &text[HEAD..end_of_codes],
-            },
-        })
+        whole_line(&LineText { line, bytes: text }, over)
     }
 }
 
@@ -101,7 +109,7 @@ impl KioskHead {
     }
 
     // Writes the line of these numbers and codes into the front of a buffer, and answers its length; nothing is
-    // written behind it.
+    // written behind it. The buffer is lent, as a device without a heap lends it.
     pub fn write(&self, codes: &[u32], buffer: &mut [u8]) -> Result<usize, Refusal>
         ensures answer { result ≡ (if nat_lt (length buffer.old) (line_length codes.now) then Err BufferTooShort else Ok (line_length codes.now)) }
         ensures after { buffer.new ≡ (if nat_lt (length buffer.old) (line_length codes.now) then buffer.old else kiosk_line self.now codes.now ++ drop (line_length codes.now) buffer.old) }

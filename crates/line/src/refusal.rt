@@ -3,6 +3,7 @@ ghost use Rattle.std.specs.Prelude.{◌≡◌};
 ghost use Rattle.line.specs.Faults.{cause_number, refusal_number, no_digit};
 ghost use Rattle.line.specs.declared.refusal.Refusal.TheVariants.{OutOfForm};
 
+use std::error::Error;
 use std::fmt;
 
 // Why a text is not a line.
@@ -50,7 +51,7 @@ impl fmt::Display for Cause {
 }
 
 // The digit reader's fault: at this place of this line no hex digit stands.
-#[derive(Clone, Copy)]
+#[derive(Clone, Copy, PartialEq, Eq, Debug)]
 pub struct DigitFault {
     pub line: u32,
     pub place: usize,
@@ -84,6 +85,8 @@ impl fmt::Display for LineFault {
         write!(f, "line {line}, byte {place}: {cause}")
     }
 }
+
+impl Error for LineFault {}
 
 // Every refusal, in the order of its numbers from 1 to 17. A case holds what the refusal adds to its number.
 #[derive(Clone, Copy, PartialEq, Eq, Debug)]
@@ -173,3 +176,5 @@ impl fmt::Display for Refusal {
         }
     }
 }
+
+impl Error for Refusal {}

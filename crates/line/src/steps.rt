@@ -1,22 +1,22 @@
 // The steps of reading a line from left to right; each answers the fault that it finds.
 ghost use Rattle.std.specs.Prelude.{◌≡◌, ◌+◌, ◌*◌, ◌^◌, ◌<◌};
-ghost use Rattle.line.specs.Digits.{number_at};
+ghost use Rattle.line.specs.Digits.{number_at, digits_fault};
 ghost use Rattle.line.specs.Faults.{unless};
-ghost use Rattle.line.specs.Steps.{byte_fault, end_fault, value_fault, field_fault, codes_fault};
+ghost use Rattle.line.specs.Steps.{fault, byte_fault, end_fault, value_fault, field_fault, codes_fault};
 
-use crate::digits::{byte_at, number};
-use crate::refusal::{Cause, LineFault};
+use crate::digits::hex_digit;
+use crate::refusal::{Cause, DigitFault, LineFault};
 
 // The range of a value, its least and the first beyond it, and the cause to name outside it.
-#[derive(Clone, Copy)]
+#[derive(Clone, Copy, PartialEq, Eq, Debug)]
 pub struct Bounds {
     pub least: u64,
     pub below: u64,
     pub cause: Cause,
 }
 
-// The tour: any number but 0.
-pub(crate) const TOUR: Bounds = Bounds {
+// Any number but 0, as the tour is.
+pub(crate) const FROM_ONE: Bounds = Bounds {
     least: 1,
     below: 1 << 32,
     cause: Cause::OutOfRange,
@@ -24,95 +24,114 @@ pub(crate) const TOUR: Bounds = Bounds {
 
 // t, the degree of the share's polynomials.
 pub(crate) const DEGREE: Bounds = Bounds {
-    least: 1,
     below: 10,
-    cause: Cause::OutOfRange,
+    ..FROM_ONE
 };
 
 // m, the number of lanes.
 pub(crate) const LANES: Bounds = Bounds {
-    least: 1,
     below: 17,
-    cause: Cause::OutOfRange,
+    ..FROM_ONE
 };
 
-// One byte, which is not 0.
-pub(crate) fn byte(
-    line: u32,
-    text: &[u8],
-    place: usize,
-    byte: u8,
-    cause: Cause,
-) -> Result<(), LineFault>
-    ensures { result ≡ unless (byte_fault line text.now place byte cause) tt }
-{
-    if byte_at(text, place) == byte {
-        Ok(())
-    } else {
-        Err(LineFault { line, place, cause })
-    }
+// The bytes that are read as a line, and the number of that line, which each fault names.
+#[derive(Clone, Copy)]
+pub(crate) struct LineText<'a> {
+    pub line: u32,
+    pub bytes: &'a [u8],
 }
 
-// The text's end.
-pub(crate) fn end(line: u32, text: &[u8], place: usize) -> Result<(), LineFault>
-    ensures { result ≡ unless (end_fault line text.now place) tt }
-{
-    if place < text.len() {
-        Err(LineFault {
-            line,
+impl LineText<'_> {
+    // The fault at a place.
+    fn fault(&self, place: usize, cause: Cause) -> LineFault
+        ensures { result ≡ fault self.now.line place cause }
+    {
+        LineFault {
+            line: self.line,
             place,
-            cause: Cause::BytesAfter,
-        })
-    } else {
-        Ok(())
+            cause,
+        }
     }
-}
 
-// Eight digits, of a value in its range.
-pub(crate) fn value(line: u32, text: &[u8], place: usize, bounds: Bounds) -> Result<u32, LineFault>
-    requires { place + 8 < 2 ^ 64 }
-    ensures { result ≡ unless (value_fault line text.now place bounds) (number_at text.now place) }
-{
-    let number = number(line, text, place)?;
-    let wide = u64::from(number);
-    if bounds.least <= wide && wide < bounds.below {
+    // One byte, which is not 0.
+    pub(crate) fn byte(&self, place: usize, byte: u8, cause: Cause) -> Result<(), LineFault>
+        requires { 0 < byte }
+        ensures { result ≡ unless (byte_fault self.now.line self.now.bytes.now place byte cause) tt }
+    {
+        if self.bytes.get(place) == Some(&byte) {
+            Ok(())
+        } else {
+            Err(self.fault(place, cause))
+        }
+    }
+
+    // The text's end.
+    pub(crate) fn end(&self, place: usize) -> Result<(), LineFault>
+        ensures { result ≡ unless (end_fault self.now.line self.now.bytes.now place) tt }
+    {
+        if place < self.bytes.len() {
+            Err(self.fault(place, Cause::BytesAfter))
+        } else {
+            Ok(())
+        }
+    }
+
+    // The number in the eight bytes from a place on.
+    pub(crate) fn number(&self, place: usize) -> Result<u32, DigitFault>
+        requires { place + 8 < 2 ^ 64 }
+        ensures { result ≡ unless (digits_fault self.now.line self.now.bytes.now place) (number_at self.now.bytes.now place) }
+    {
+        let mut number = 0;
+        // Place by place, since a fault names the first that has no digit.
+        for at in place..place + 8 {
+            let Some(digit) = self.bytes.get(at).and_then(|byte| hex_digit(*byte)) else {
+                return Err(DigitFault {
+                    line: self.line,
+                    place: at,
+                });
+            };
+            number = number * 16 + digit;
+        }
         Ok(number)
-    } else {
-        Err(LineFault {
-            line,
-            place,
-            cause: bounds.cause,
-        })
     }
-}
 
-// A tab, then a value.
-pub(crate) fn field(line: u32, text: &[u8], place: usize, bounds: Bounds) -> Result<u32, LineFault>
-    requires { place + 9 < 2 ^ 64 }
-    ensures { result ≡ unless (field_fault line text.now place bounds) (number_at text.now (place + 1)) }
-{
-    byte(line, text, place, b'\t', Cause::NoTab)?;
-    value(line, text, place + 1, bounds)
-}
-
-// Codes below the order, unparted.
-pub(crate) fn codes(
-    line: u32,
-    text: &[u8],
-    place: usize,
-    count: usize,
-    order: u64,
-) -> Result<(), LineFault>
-    requires { place + 8 * count < 2 ^ 64 }
-    ensures { result ≡ unless (codes_fault line text.now place count order) tt }
-{
-    let bounds = Bounds {
-        least: 0,
-        below: order,
-        cause: Cause::OutOfRange,
-    };
-    for i in 0..count {
-        value(line, text, place + 8 * i, bounds)?;
+    // Eight digits, of a value in its range.
+    pub(crate) fn value(&self, place: usize, bounds: Bounds) -> Result<u32, LineFault>
+        requires { place + 8 < 2 ^ 64 }
+        ensures { result ≡ unless (value_fault self.now.line self.now.bytes.now place bounds) (number_at self.now.bytes.now place) }
+    {
+        let number = self.number(place)?;
+        let wide = u64::from(number);
+        if bounds.least <= wide && wide < bounds.below {
+            Ok(number)
+        } else {
+            Err(self.fault(place, bounds.cause))
+        }
     }
-    Ok(())
+
+    // A tab, then a value.
+    pub(crate) fn field(&self, place: usize, bounds: Bounds) -> Result<u32, LineFault>
+        requires { place + 9 < 2 ^ 64 }
+        ensures { result ≡ unless (field_fault self.now.line self.now.bytes.now place bounds) (number_at self.now.bytes.now (place + 1)) }
+    {
+        self.byte(place, b'\t', Cause::NoTab)?;
+        self.value(place + 1, bounds)
+    }
+
+    // Codes below the order, unparted.
+    pub(crate) fn codes(&self, place: usize, count: usize, order: u64) -> Result<(), LineFault>
+        requires { place + 8 * count < 2 ^ 64 }
+        ensures { result ≡ unless (codes_fault self.now.line self.now.bytes.now place count order) tt }
+    {
+        let bounds = Bounds {
+            least: 0,
+            below: order,
+            cause: Cause::OutOfRange,
+        };
+        // Place by place, as a fault names one.
+        for at in (place..place + 8 * count).step_by(8) {
+            self.value(at, bounds)?;
+        }
+        Ok(())
+    }
 }

@@ -1,7 +1,7 @@
 -- Numbers in base ten, digit by digit.
-use Rattle.std.proofs.Common.{◌≡◌, ℕ, ◌+◌, ◌-◌, ◌*◌, ◌^◌, ◌<◌, ◌≤◌, min, true, false, cond, List, [], ◌∷◌, length, Some, None, refl, ap, ⊎_elim, arith}
+use Rattle.std.proofs.Common.{◌≡◌, ℕ, ◌+◌, ◌-◌, ◌*◌, ◌^◌, ◌≤◌, min, true, cond, List, [], ◌∷◌, Some, None, ap, ⊎_elim, arith}
 use Rattle.std.proofs.lemmas.Bool.{cases_lt}
-use Rattle.pair_key.specs.Arguments.{is_digit, all_digits, value_after, digits_after, base_ten}
+use Rattle.pair_key.specs.Arguments.{is_digit, all_digits, value_after, digits_after}
 
 value_ge : (n : ℕ) (bs : List ℕ) → n ≤ value_after n bs
 value_ge n [] = omega arith
@@ -17,10 +17,3 @@ cut_off n bs =
 
 pub digits_more : (n b : ℕ) (bs : List ℕ) → is_digit b ≡ true → digits_after n (b ∷ bs) ≡ digits_after (min (2 ^ 32 - 1) (n * 10 + (b - 48))) bs
 digits_more n b bs e = rw e (ap (λ k. cond (all_digits bs) (Some k) None) (cut_off (n * 10 + (b - 48)) bs))
-
-pub digits_stop : (n b : ℕ) (bs : List ℕ) → is_digit b ≡ false → digits_after n (b ∷ bs) ≡ None
-digits_stop n b bs e = rw e refl
-
-pub base_ten_is : (bs : List ℕ) → 0 < length bs → base_ten bs ≡ digits_after 0 bs
-base_ten_is [] h = absurd (omega arith)
-base_ten_is (b ∷ bs) h = refl

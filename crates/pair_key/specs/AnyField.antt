@@ -7,8 +7,6 @@ use Rattle.field.specs.Residues.{residue_arith}
 use Rattle.line.specs.declared.refusal.Cause.{Cause}
 use Rattle.line.specs.declared.refusal.Cause.TheVariants.{WrongLetter, NoTab, NoHexDigit, NoLineFeed, OutOfRange, OtherMark, BytesAfter}
 use Rattle.line.specs.KioskLine.{kiosk_fault}
-use Rattle.pair_key.specs.declared.any_field.FieldName.{FieldName}
-use Rattle.pair_key.specs.declared.any_field.FieldName.TheVariants.{Bytes, Residues, DoubledBytes, DoubledResidues}
 
 abbrev pub names_another : Cause → Bool
 names_another WrongLetter = false
@@ -30,9 +28,3 @@ tried A text next = cond (of_another_field A text) next A
 -- The fields are tried in turn. The last stands where no field has that mark.
 abbrev pub field_of : List ℕ → Arith
 field_of text = tried byte_arith text (tried residue_arith text (tried doubled_bytes text doubled_residues))
-
-abbrev pub arith_of : FieldName → Arith
-arith_of Bytes = byte_arith
-arith_of Residues = residue_arith
-arith_of DoubledBytes = doubled_bytes
-arith_of DoubledResidues = doubled_residues

@@ -1,5 +1,5 @@
 -- What is printed: a line for each of the other kiosks, with the key that it shares with the kiosk of the line.
-use Rattle.std.specs.Prelude.{◌≡◌, ℕ, List, [], ◌∷◌, ◌++◌, map, Some, None, Ok, Err, vec_items, codes, decimal, Option, Result, Vec}
+use Rattle.std.specs.Prelude.{◌≡◌, ℕ, List, [], ◌∷◌, ◌++◌, map, Some, None, Ok, Err, string_bytes, codes, decimal, Option, Result, String}
 use Rattle.std.specs.List.{flat_map}
 use Rattle.std.specs.Option.{option_map}
 use Rattle.std.specs.declared.alloc.Global.{Global}
@@ -43,7 +43,7 @@ Appended A text other was now (Err (Refused cause)) = refusal A text other.0 16 
 Appended A text other was now (Err Memory) = Unit {0}
 
 -- The lines of all keys if nothing is refused, else the first refusal; want of memory says nothing.
-abbrev pub Reported : Arith → List ℕ → List KioskNumber → Result (Vec ℕ Global) Failure → Type 0
-Reported A text others (Ok printed) = (first_refusal A text others ≡ None) × (vec_items printed ≡ flat_map (line_of A text) others)
+abbrev pub Reported : Arith → List ℕ → List KioskNumber → Result (String Global) Failure → Type 0
+Reported A text others (Ok printed) = (first_refusal A text others ≡ None) × (string_bytes printed ≡ flat_map (line_of A text) others)
 Reported A text others (Err (Refused cause)) = first_refusal A text others ≡ Some cause
 Reported A text others (Err Memory) = Unit {0}

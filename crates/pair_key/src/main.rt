@@ -6,10 +6,9 @@ mod arguments;
 mod report;
 
 use any_field::report_any;
-use anyhow::anyhow;
+use anyhow::bail;
 use arguments::base_ten;
 use line::number::KioskNumber;
-use report::Failure;
 use std::env;
 use std::io::{Read, Write};
 use std::process::ExitCode;
@@ -18,10 +17,10 @@ use std::process::ExitCode;
 fn numbers(rt: &HostRuntime) -> anyhow::Result<Option<Vec<KioskNumber>>> {
     let mut all = Vec::new(rt.alloc());
     for argument in env::args(rt)?.skip(1) {
-        match base_ten(argument.as_str().as_bytes()) {
-            Some(number) => all.push(KioskNumber(number))?,
-            None => return Ok(None),
-        }
+        let Some(number) = base_ten(argument.as_bytes()) else {
+            return Ok(None);
+        };
+        all.push(KioskNumber(number))?;
     }
     if all.is_empty() {
         return Ok(None);
@@ -33,18 +32,12 @@ fn numbers(rt: &HostRuntime) -> anyhow::Result<Option<Vec<KioskNumber>>> {
 fn run(rt: &HostRuntime) -> anyhow::Result<()> {
     let Some(others) = numbers(rt)? else {
         eprintln!(rt; "usage: pair_key NUMBER.. < LINE")?;
-        return Err(anyhow!("the arguments are other kiosks' numbers in base ten, one or more"));
+        bail!("the arguments are other kiosks' numbers in base ten, one or more");
     };
     let mut text = Vec::new(rt.alloc());
     rt.stdin().read_to_end(&mut text)?;
-    match report_any(rt.alloc(), text.as_slice(), others.as_slice()) {
-        Ok(lines) => rt.stdout().write_all(lines.as_slice())?,
-        Err(Failure::Refused(refusal)) => {
-            let words = format!(in rt.alloc(); "refused {refusal}")?;
-            return Err(anyhow!(words));
-        }
-        Err(Failure::Memory) => return Err(anyhow!("out of memory")),
-    }
+    let lines = report_any(rt.alloc(), &text, &others)?;
+    rt.stdout().write_all(lines.as_bytes())?;
     Ok(())
 }
 

@@ -1,26 +1,40 @@
 // What the program prints for a line and the numbers of other kiosks.
-ghost use Rattle.std.specs.Prelude.{◌≡◌, ◌++◌, OnOk};
+ghost use Rattle.std.specs.Prelude.{◌≡◌, Some, string_bytes};
 ghost use Rattle.std.specs.Option.{option_map};
 ghost use Rattle.line.specs.declared.refusal.Refusal.TheVariants.{OutOfForm};
+ghost use Rattle.line.specs.Digits.{eight};
 ghost use Rattle.line.specs.Faults.{unless};
 ghost use Rattle.line.specs.KioskLine.{kiosk_fault, kiosk_head};
-ghost use Rattle.pair_key.specs.Report.{line_start, blank_code, key_line, Appended, Reported};
+ghost use Rattle.pair_key.specs.Report.{key_line, Appended, Reported};
 ghost use Rattle.pair_key.specs.declared.report.Failure.TheVariants.{Refused, Memory};
 
 use field::interface::Field;
-use kiosk::derive;
+use kiosk::{derive, numbers};
 use line::digits::hex;
 use line::kiosk_line::{KioskHead, KioskLine};
 use line::number::KioskNumber;
 use line::refusal::Refusal;
 use std::alloc::{AllocError, Global};
+use std::error::Error;
+use std::fmt;
 
 // A refusal, or want of memory.
-#[derive(Clone, Copy)]
+#[derive(Clone, Copy, PartialEq, Eq, Debug)]
 pub enum Failure {
     Refused(Refusal),
     Memory,
 }
+
+impl fmt::Display for Failure {
+    fn fmt<W: fmt::Write>(&self, f: &mut fmt::Formatter<W>) -> fmt::Result {
+        match self {
+            Failure::Refused(refusal) => write!(f, "refused {refusal}"),
+            Failure::Memory => write!(f, "out of memory"),
+        }
+    }
+}
+
+impl Error for Failure {}
 
 impl From<Refusal> for Failure {
     ghost from_gives = { λ cause r. r ≡ Refused cause };
@@ -42,83 +56,78 @@ impl From<AllocError> for Failure {
 fn head<F: Field>(text: &[u8]) -> Result<KioskHead, Refusal>
     ensures { result ≡ unless (option_map OutOfForm (kiosk_fault 1 F.Field.arith.mark F.Field.arith.order text.now)) (kiosk_head text.now) }
 {
-    let line = KioskLine::read(1, F::mark(), F::order(), text)?;
+    let line = KioskLine::read(1, numbers::<F>(), text)?;
     Ok(line.head)
 }
 
-// Appends the start of a key's line, up to the colon.
-fn append_start(
-    out: &mut Vec<u8>,
-    heap: Global,
-    head: &KioskHead,
-    other: KioskNumber,
-) -> Result<(), AllocError>
-    ensures { OnOk result (out.new.items ≡ out.old.items ++ line_start head.now other.0) }
-{
-    let own = head.number.0;
-    let tour = head.tour;
-    let other = other.0;
-    let start = format!(in heap; "kiosk {own} and kiosk {other} of tour {tour}:")?;
-    out.extend_from_slice(start.as_bytes())?;
-    Ok(())
-}
+// A code of a key. `{:08x}` would branch on the values of its digits, which are secret.
+#[derive(Clone, Copy)]
+struct Code(u32);
 
-// Appends a blank and a code.
-fn append_code(out: &mut Vec<u8>, code: u32) -> Result<(), AllocError>
-    ensures { OnOk result (out.new.items ≡ out.old.items ++ blank_code code) }
-{
-    out.push(b' ')?;
-    out.extend_from_slice(&hex(code))?;
-    Ok(())
-}
+impl fmt::Display for Code {
+    ghost output = { λ code. Some (eight code.0) };
 
-// Appends the line of one key.
-fn append(
-    out: &mut Vec<u8>,
-    heap: Global,
-    head: &KioskHead,
-    other: KioskNumber,
-    key: &[u32],
-) -> Result<(), AllocError>
-    ensures { OnOk result (out.new.items ≡ out.old.items ++ key_line head.now other.0 key.now) }
-{
-    append_start(out, heap, head, other)?;
-    for code in key {
-        append_code(out, *code)?;
+    fn fmt<W: fmt::Write>(&self, f: &mut fmt::Formatter<W>) -> fmt::Result {
+        for digit in hex(self.0) {
+            f.write_char(char::from(digit))?;
+        }
+        Ok(())
     }
-    out.push(b'\n')?;
-    Ok(())
+}
+
+// The key that the kiosk of a line shares with one of the others.
+#[derive(Clone, Copy)]
+struct SharedKey<'a> {
+    head: KioskHead,
+    other: KioskNumber,
+    codes: &'a [u32],
+}
+
+impl fmt::Display for SharedKey<'_> {
+    ghost output = { λ key. Some (key_line key.head key.other.0 key.codes.now) };
+
+    fn fmt<W: fmt::Write>(&self, f: &mut fmt::Formatter<W>) -> fmt::Result {
+        let own = self.head.number.0;
+        let other = self.other.0;
+        let tour = self.head.tour;
+        write!(f, "kiosk {own} and kiosk {other} of tour {tour}:")?;
+        for code in self.codes {
+            write!(f, " {}", Code(*code))?;
+        }
+        writeln!(f)
+    }
 }
 
 // Derives the key for one of the others, and appends its line.
 fn append_key<F: Field>(
-    out: &mut Vec<u8>,
-    heap: Global,
+    lines: &mut String,
     text: &[u8],
-    head: &KioskHead,
+    head: KioskHead,
     other: KioskNumber,
 ) -> Result<(), Failure>
-    requires { head.now ≡ kiosk_head text.now }
-    ensures { Appended F.Field.arith text.now other out.old.items out.new.items result }
+    requires { head ≡ kiosk_head text.now }
+    ensures { Appended F.Field.arith text.now other (string_bytes lines.old) (string_bytes lines.new) result }
 {
+    // Room for the longest key, which `derive` asks to be lent.
     let mut key = [0u32; 16];
-    let codes = derive::<F>(text, other, &mut key)?;
-    append(out, heap, head, other, &key[0..codes])?;
+    let count = derive::<F>(text, other, &mut key)?;
+    let codes = &key[..count];
+    write!(lines, "{}", SharedKey { head, other, codes })?;
     Ok(())
 }
 
 // The lines of the keys that the kiosk of this line shares with the others.
 pub fn report<F: Field>(
-    heap: Global,
+    alloc: Global,
     text: &[u8],
     others: &[KioskNumber],
-) -> Result<Vec<u8>, Failure>
+) -> Result<String, Failure>
     ensures { Reported F.Field.arith text.now others.now result }
 {
     let head = head::<F>(text)?;
-    let mut out = Vec::new(heap);
+    let mut lines = String::new(alloc);
     for other in others {
-        append_key::<F>(&mut out, heap, text, &head, *other)?;
+        append_key::<F>(&mut lines, text, head, *other)?;
     }
-    Ok(out)
+    Ok(lines)
 }

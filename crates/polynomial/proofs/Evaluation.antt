@@ -9,8 +9,8 @@ use Rattle.std.proofs.lemmas.Bool.{cases_lt}
 use Rattle.field.specs.Arith.{Arith, Laws, Coding, power}
 use Rattle.field.proofs.Codes.{Code, codes}
 use Rattle.polynomial.specs.PairKey.{pair_key}
-use Rattle.polynomial.specs.Polynomial.{sum_over, evaluation}
-use Rattle.polynomial.proofs.Sums.{sums, powers, value_at, horner_rule}
+use Rattle.polynomial.specs.Polynomial.{sum_over, product_over, evaluation}
+use Rattle.polynomial.proofs.Sums.{sums, products, powers, value_at, horner_rule}
 
 -- what holds of every element holds of each in a list
 everywhere : {X : Type 0} (P : X → Type 0) → ((x : X) → P x) → (xs : List X) → AllByRecursion P xs
@@ -26,6 +26,11 @@ module _ (A : Arith) (L : Laws A) where
   unfolding sum_over
   sums_code zero f = refl
   sums_code (suc n) f = ap (λ s. A.sum s (f n).0) (sums_code n f)
+
+  pub products_code : (n : ℕ) (f : ℕ → Code A) → (products (codes A L) n f).0 ≡ product_over A n (λ j. (f j).0)
+  unfolding product_over
+  products_code zero f = refl
+  products_code (suc n) f = ap (λ p. A.product p (f n).0) (products_code n f)
 
   powers_code : (x : Code A) (n : ℕ) → (powers (codes A L) x n).0 ≡ power A.product x.0 n
   unfolding power
@@ -61,12 +66,18 @@ module _ (A : Arith) (L : Laws A) where
   unfolding evaluation sum_over
   evaluation_nil x = refl
 
--- sums are equal where their terms are
+-- sums and products are equal where what they are made from is
 pub sum_over_same : (A : Arith) (n : ℕ) (f g : ℕ → ℕ) → ((j : ℕ) → j < n → f j ≡ g j) → sum_over A n f ≡ sum_over A n g
 unfolding sum_over
 sum_over_same A zero f g same = refl
 sum_over_same A (suc n) f g same =
     ap (λ s. A.sum s (f n)) (sum_over_same A n f g (λ j h. same j (omega arith))) ∙ ap (A.sum (sum_over A n g)) (same n (omega arith))
+
+pub product_over_same : (A : Arith) (n : ℕ) (f g : ℕ → ℕ) → ((j : ℕ) → j < n → f j ≡ g j) → product_over A n f ≡ product_over A n g
+unfolding product_over
+product_over_same A zero f g same = refl
+product_over_same A (suc n) f g same =
+    ap (λ p. A.product p (f n)) (product_over_same A n f g (λ j h. same j (omega arith))) ∙ ap (A.product (product_over A n g)) (same n (omega arith))
 
 -- a code of a pair key is the value, at the other kiosk's number, of the polynomial that a lane of the share has for its coefficients
 pub pair_key_lane : (A : Arith) (t m : ℕ) (share : List ℕ) (v lane : ℕ) → lane < m → lane * (t + 1) + (t + 1) ≤ length share →

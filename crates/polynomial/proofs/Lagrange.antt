@@ -18,9 +18,9 @@ use Rattle.polynomial.specs.Theorems.{Through, Points, Interpolates}
 use Rattle.polynomial.proofs.Carried.{counted_codes, evaluation_is}
 use Rattle.polynomial.proofs.Coefficients.{evaluation_counting}
 use Rattle.polynomial.proofs.Determined.{apart}
-use Rattle.polynomial.proofs.Evaluation.{code_at, code_below, sums_code, value_code, sum_over_same}
+use Rattle.polynomial.proofs.Evaluation.{code_at, code_below, sums_code, products_code, value_code, sum_over_same, product_over_same}
 use Rattle.polynomial.proofs.Roots.{Apart, same_coefficients}
-use Rattle.polynomial.proofs.Sums.{fold_same, fold_map, value_at}
+use Rattle.polynomial.proofs.Sums.{value_at}
 use Rattle.polynomial.proofs.Through.{Factors, lagrange, through, through_meets, lagrange_value}
 use Rattle.polynomial.proofs.Through as elements
 
@@ -73,8 +73,8 @@ module _ (A : Arith) (L : Laws A) where
     n = length points
 
     weight_is : (s x : Code A) → weight A points s.0 x.0 ≡ (elements.weight (codes_field A L) factor_element factors n p s x).0
-    unfolding weight product_over
-    weight_is s x = sym (fold_map (λ (c : Code A). c.0) R.mul A.product (λ y z. refl) R.one n (λ j. factor_element s x (p j)))
+    unfolding weight
+    weight_is s x = sym (products_code A L n (λ j. factor_element s x (p j)))
 
     interpolation_is : (values : List ℕ) (values_below : Codes A values) (x : Code A) →
         interpolation A points values x.0 ≡ (lagrange (codes_field A L) factor_element factors n p (code_at A L values values_below) x).0
@@ -154,9 +154,9 @@ module _ (A : Arith) (L : Laws A) where
 
   weight_at_zero : (points : List ℕ) (s : ℕ) → Codes A points →
       weight A points s 0 ≡ product_over A (length points) (λ i. let r = get_or points i 0 in cond (eqb r s) 1 (quotient A r (difference A r s)))
-  unfolding weight product_over
+  unfolding weight
   weight_at_zero points s below =
-      fold_same A.product 1 (length points) (λ i. factor A s 0 (get_or points i 0)) (λ i. cond (eqb (get_or points i 0) s) 1 (quotient A (get_or points i 0) (difference A (get_or points i 0) s)))
+      product_over_same A (length points) (λ i. factor A s 0 (get_or points i 0)) (λ i. cond (eqb (get_or points i 0) s) 1 (quotient A (get_or points i 0) (difference A (get_or points i 0) s)))
       (λ i h.
       let r = get_or points i 0 in
       ap (λ w. cond (eqb r s) 1 (quotient A w (difference A r s))) (difference_zero r (code_below A L points below i)))

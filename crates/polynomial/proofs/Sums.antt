@@ -3,32 +3,25 @@ use Rattle.std.proofs.Common.{◌≡◌, ℕ, zero, suc, ◌<◌, sym, refl, ap,
 use mathlib.Core.Path.{fun_ext}
 use Rattle.std.proofs.lemmas.Bool.{cases_lt}
 use Rattle.field.proofs.Ring.{Ring, add_zero, mul_one, mul_zero, add_mul, add_swap}
-use Rattle.polynomial.specs.Polynomial.{fold}
-
--- folds are equal where what they join is
-pub fold_same : {X : Type 0} (op : X → X → X) (first : X) (n : ℕ) (f g : ℕ → X) → ((j : ℕ) → j < n → f j ≡ g j) → fold op first n f ≡ fold op first n g
-fold_same op first zero f g same = refl
-fold_same op first (suc n) f g same =
-    ap (λ s. op s (f n)) (fold_same op first n f g (λ j h. same j (omega arith))) ∙ ap (op (fold op first n g)) (same n (omega arith))
-
--- a map that keeps the operation and the first value keeps folds
-pub fold_map : {X Y : Type 0} (h : X → Y) (op : X → X → X) (opʸ : Y → Y → Y) → ((x y : X) → h (op x y) ≡ opʸ (h x) (h y)) → (first : X) (n : ℕ) (f : ℕ → X) →
-    h (fold op first n f) ≡ fold opʸ (h first) n (λ j. h (f j))
-fold_map h op opʸ keeps first zero f = refl
-fold_map h op opʸ keeps first (suc n) f = keeps (fold op first n f) (f n) ∙ ap (λ s. opʸ s (h (f n))) (fold_map h op opʸ keeps first n f)
 
 module _ {E : Type 0} (R : Ring E) where
   -- the sum of f 0, .., f (n - 1)
   abbrev pub sums : ℕ → (ℕ → E) → E
-  sums n f = fold R.add R.zero n f
+  sums zero f = R.zero
+  sums (suc n) f = R.add (sums n f) (f n)
 
   -- the product of f 0, .., f (n - 1)
   abbrev pub products : ℕ → (ℕ → E) → E
-  products n f = fold R.mul R.one n f
+  products zero f = R.one
+  products (suc n) f = R.mul (products n f) (f n)
 
   abbrev pub powers : E → ℕ → E
   powers x zero = R.one
   powers x (suc n) = R.mul x (powers x n)
+
+  sums_same : (n : ℕ) (f g : ℕ → E) → ((j : ℕ) → j < n → f j ≡ g j) → sums n f ≡ sums n g
+  sums_same zero f g same = refl
+  sums_same (suc n) f g same = ap (λ s. R.add s (f n)) (sums_same n f g (λ j h. same j (omega arith))) ∙ ap (R.add (sums n g)) (same n (omega arith))
 
   sums_first : (n : ℕ) (f : ℕ → E) → sums (suc n) f ≡ R.add (f 0) (sums n (λ j. f (suc j)))
   sums_first zero f = R.add_comm R.zero (f 0)
@@ -91,7 +84,7 @@ module _ {E : Type 0} (R : Ring E) where
 
   pub value_same : (n : ℕ) (c d : ℕ → E) (x : E) → ((j : ℕ) → j < n → c j ≡ d j) → value_at n c x ≡ value_at n d x
   value_same n c d x same =
-      fold_same R.add R.zero n (λ j. R.mul (c j) (powers x j)) (λ j. R.mul (d j) (powers x j)) (λ j h. ap (λ w. R.mul w (powers x j)) (same j h))
+      sums_same n (λ j. R.mul (c j) (powers x j)) (λ j. R.mul (d j) (powers x j)) (λ j h. ap (λ w. R.mul w (powers x j)) (same j h))
 
   pub value_add : (n : ℕ) (c d : ℕ → E) (x : E) → value_at n (λ j. R.add (c j) (d j)) x ≡ R.add (value_at n c x) (value_at n d x)
   value_add n c d x =

@@ -38,16 +38,11 @@ pub fn weight_of<F: Field>(points: &[u32], s: F, x: F) -> Option<F>
 fn all_codes<F: Field>(numbers: &[u32]) -> bool
     ensures { result ≡ are_codes F.Field.arith numbers.now }
 {
-    for number in numbers {
-        if F::from_code(*number).is_none() {
-            return false;
-        }
-    }
-    true
+    numbers.iter().all(|number| F::from_code(*number).is_some())
 }
 
 // Writes the weights of these points, for the value at x, into the first places of `into`, and answers how many there are. Absent, with nothing
-// written, where one of the points is no code or there is too little room.
+// written, where one of the points is no code or there is too little room. The room is lent, as nothing here allocates.
 pub fn write_weights<F: Field>(points: &[u32], x: F, into: &mut [F]) -> Option<usize>
     ensures answer { result ≡ (if are_codes F.Field.arith points.now && nat_le (length points.now) (length into.old) then Some (length points.now) else None) }
     ensures after { map F.Field.code into.new ≡ (if are_codes F.Field.arith points.now && nat_le (length points.now) (length into.old) then weights F.Field.arith points.now (F.Field.code x) ++ drop (length points.now) (map F.Field.code into.old) else map F.Field.code into.old) }
@@ -55,14 +50,12 @@ pub fn write_weights<F: Field>(points: &[u32], x: F, into: &mut [F]) -> Option<u
     if !all_codes::<F>(points) || points.len() > into.len() {
         return None;
     }
-    for i in 0..points.len() {
-        match F::from_code(points[i]) {
-            Some(s) => match weight_of(points, s, x) {
-                Some(weight) => into[i] = weight,
-                None => unreachable(),
-            },
-            None => unreachable(),
-        }
+    // By an index, as nothing is proved of what is written through an adapter of `iter_mut`.
+    for (i, point) in points.iter().enumerate() {
+        let Some(s) = F::from_code(*point) else {
+            unreachable()
+        };
+        into[i] = weight_of(points, s, x).unwrap();
     }
     Some(points.len())
 }
@@ -76,9 +69,9 @@ pub fn interpolate<F: Field>(weights: &[F], values: &[u32]) -> Option<u32>
         return None;
     }
     let mut sum = F::zero();
-    for i in 0..weights.len() {
-        let value = F::from_code(values[i])?;
-        sum = sum.sum(value.product(weights[i]));
+    for (weight, value) in weights.iter().zip(values) {
+        let value = F::from_code(*value)?;
+        sum = sum.sum(value.product(*weight));
     }
     Some(sum.to_code())
 }

@@ -1,9 +1,10 @@
 // Polynomials over any field, and what the scheme makes of them.
 #![tactic(auto)]
 
-ghost use Rattle.std.specs.Prelude.{◌≡◌, ℕ, ◌<◌, List, ◌∷◌, map};
+ghost use Rattle.std.specs.Prelude.{◌≡◌, ℕ, ◌<◌, List, ◌∷◌, map, if◌then◌else◌, Some, None};
 ghost use Rattle.std.specs.List.{AllByRecursion};
-ghost use Rattle.polynomial.specs.Polynomial.{evaluation};
+ghost use Rattle.std.specs.Option.{option_map};
+ghost use Rattle.polynomial.specs.Polynomial.{evaluation, are_codes, Answers};
 
 use field::interface::Field;
 
@@ -12,12 +13,6 @@ pub mod seat;
 pub mod share;
 pub mod theorems;
 
-fn times_plus<F: Field>(value: F, point: F, coefficient: F) -> F
-    ensures { F.Field.code result ≡ F.Field.arith.sum (F.Field.arith.product (F.Field.code value) (F.Field.code point)) (F.Field.code coefficient) }
-{
-    value.product(point).sum(coefficient)
-}
-
 // Horner's rule: from the value at a point of the polynomial with the higher coefficients, its value with one more coefficient below
 // them. From zero on, over all coefficients from the highest down, this evaluates a polynomial.
 pub fn horner<F: Field>(value: F, point: F, coefficient: F) -> F
@@ -25,7 +20,25 @@ pub fn horner<F: Field>(value: F, point: F, coefficient: F) -> F
     ensures evaluates { (higher : List ℕ) → AllByRecursion (λ c. c < F.Field.arith.order) higher → F.Field.code value ≡ evaluation F.Field.arith higher (F.Field.code point) → F.Field.code result ≡ evaluation F.Field.arith (F.Field.code coefficient ∷ higher) (F.Field.code point) }
 {
     F::laws();
-    times_plus(value, point, coefficient)
+    value.product(point).sum(coefficient)
+}
+
+// The value at a point of the polynomial with `count` coefficients, of which `coefficient` answers that of each power. Absent where it answers none for
+// one of them.
+pub fn evaluate_by<F: Field, C: Fn(usize) -> Option<F>>(
+    count: usize,
+    coefficient: C,
+    point: F,
+) -> Option<F>
+    requires { (power : ℕ) → power < count → C.pre coefficient power }
+    ensures { (numbers : List ℕ) → Answers F.Field.arith F.Field.code (C.post coefficient) count numbers → option_map F.Field.code result ≡ (if are_codes F.Field.arith numbers then Some (evaluation F.Field.arith numbers (F.Field.code point)) else None) }
+{
+    F::laws();
+    let mut value = F::zero();
+    for power in (0..count).rev() {
+        value = horner(value, point, coefficient(power)?);
+    }
+    Some(value)
 }
 
 // The value at a point of the polynomial with these coefficients, that of the power 0 first.
@@ -33,9 +46,8 @@ pub fn evaluate<F: Field>(coefficients: &[F], point: F) -> F
     ensures { F.Field.code result ≡ evaluation F.Field.arith (map F.Field.code coefficients.now) (F.Field.code point) }
 {
     F::laws();
-    let mut value = F::zero();
-    for i in (0..coefficients.len()).rev() {
-        value = horner(value, point, coefficients[i]);
-    }
-    value
+    coefficients.iter().rev().fold(
+        F::zero(),
+        |value, coefficient| horner(value, point, *coefficient),
+    )
 }

@@ -2,7 +2,7 @@
 ghost use Rattle.std.specs.Prelude.{◌≡◌};
 ghost use Rattle.polynomial.specs.Seat.{seat_answer};
 
-use crate::horner;
+use crate::evaluate_by;
 use field::interface::Field;
 
 // The code of a seat at a place of the master, which has `size` codes, where `threshold` seats restore it. Absent where the place is beyond the
@@ -20,11 +20,10 @@ pub fn seat_code<F: Field>(
     if place >= size || blocks.checked_mul(size)? > table.len() {
         return None;
     }
-    F::laws();
-    let mut value = F::zero();
-    for block in (0..blocks).rev() {
-        let coefficient = F::from_code(table[block * size + place])?;
-        value = horner(value, seat, coefficient);
-    }
-    Some(value.to_code())
+    evaluate_by(
+        blocks,
+        |block| F::from_code(table[block * size + place]),
+        seat,
+    )
+    .map(F::to_code)
 }

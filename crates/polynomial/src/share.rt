@@ -3,7 +3,7 @@ ghost use Rattle.std.specs.Prelude.{◌≡◌, suc, ◌*◌, ◌<◌, ◌≤◌,
 ghost use Rattle.polynomial.specs.Share.{share_answer};
 ghost use Rattle.polynomial.specs.Table.{lane_size, place};
 
-use crate::horner;
+use crate::evaluate_by;
 use field::interface::Field;
 
 // The number of codes in one lane of a table of this degree.
@@ -32,11 +32,7 @@ fn lane_of(table: &[u32], degree: u32, lane: u32) -> Option<&[u32]>
 {
     let size = lane_size(degree);
     let start = size.checked_mul(lane as usize)?;
-    let end = start.checked_add(size)?;
-    if end > table.len() {
-        return None;
-    }
-    Some(&table[start..end])
+    table.get(start..start.checked_add(size)?)
 }
 
 // The code g(kiosk, j) of a lane of the kiosk's share. Absent where j is beyond the degree, the table ends before the lane does, or one of
@@ -48,11 +44,10 @@ pub fn share_code<F: Field>(table: &[u32], degree: u32, lane: u32, j: u32, kiosk
         return None;
     }
     let codes = lane_of(table, degree, lane)?;
-    F::laws();
-    let mut value = F::zero();
-    for i in (0..degree as usize + 1).rev() {
-        let coefficient = F::from_code(codes[place_of(degree, i, j as usize)])?;
-        value = horner(value, kiosk, coefficient);
-    }
-    Some(value.to_code())
+    evaluate_by(
+        degree as usize + 1,
+        |i| F::from_code(codes[place_of(degree, i, j as usize)]),
+        kiosk,
+    )
+    .map(F::to_code)
 }

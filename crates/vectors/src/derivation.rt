@@ -32,13 +32,11 @@ fn both_kiosks_derive_one_key(rt: HostRuntime) {
 fn refused(rt: &impl Abort, number: u32, room: usize) -> Result<Refusal, Fail> {
     let mut key = [7u32; 2];
     let room = room.min(2);
-    match derive::<Residue>(&KIOSK_2, KioskNumber(number), &mut key[0..room]) {
-        Err(refusal) => {
-            assert!(rt; key == [7, 7]);
-            Ok(refusal)
-        }
-        Ok(_) => Err(Fail::new("not refused")),
-    }
+    let Err(refusal) = derive::<Residue>(&KIOSK_2, KioskNumber(number), &mut key[..room]) else {
+        return Err(Fail::new("not refused"));
+    };
+    assert!(rt; key == [7, 7]);
+    Ok(refusal)
 }
 
 #[test]
@@ -102,8 +100,8 @@ fn over_bytes(rt: HostRuntime) {
 // Sixteen lanes of ten codes: the first of each is 0, and the others are the lane's index.
 fn sixteen_lanes() -> [u32; 160] {
     let mut codes = [0u32; 160];
-    for i in 0..160usize {
-        codes[i] = if i % 10 == 0 { 0 } else { (i / 10) as u32 };
+    for (i, code) in codes.iter_mut().enumerate() {
+        *code = if i % 10 == 0 { 0 } else { (i / 10) as u32 };
     }
     codes
 }

@@ -41,10 +41,8 @@ fn residues(rt: HostRuntime) {
 fn inverses<F: Field>(rt: &impl Abort, order: u32) -> Result<(), Fail> {
     assert_eq!(rt; inverse::<F>(0), None);
     for x in 1..order {
-        match inverse::<F>(x) {
-            Some(y) => assert_eq!(rt; product::<F>(x, y), Some(1)),
-            None => return Err(Fail::new("no inverse")),
-        }
+        let y = inverse::<F>(x).ok_or("no inverse")?;
+        assert_eq!(rt; product::<F>(x, y), Some(1));
     }
     assert!(rt; F::from_code(order).is_none());
     Ok(())
@@ -107,15 +105,12 @@ fn laws_of<F: Field>(rt: &impl Abort, x: F, y: F, z: F) -> Result<(), Fail> {
 // The laws for every three of the codes, and that a code is that of its element.
 fn laws<F: Field>(rt: &impl Abort, codes: &[u32]) -> Result<(), Fail> {
     for a in codes {
+        let x = F::from_code(*a).ok_or("no element")?;
+        assert_eq!(rt; x.to_code(), *a);
         for b in codes {
+            let y = F::from_code(*b).ok_or("no element")?;
             for c in codes {
-                match (F::from_code(*a), F::from_code(*b), F::from_code(*c)) {
-                    (Some(x), Some(y), Some(z)) => {
-                        assert_eq!(rt; x.to_code(), *a);
-                        laws_of(rt, x, y, z)?;
-                    }
-                    _ => return Err(Fail::new("no element")),
-                }
+                laws_of(rt, x, y, F::from_code(*c).ok_or("no element")?)?;
             }
         }
     }

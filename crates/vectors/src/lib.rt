@@ -3,7 +3,6 @@
 
 ghost use Rattle.std.specs.Prelude.{◌≡◌, length};
 ghost use Rattle.vectors.specs.Examples.{examples, ExamplesHold};
-ghost use Rattle.vectors.specs.SchemeExamples.{scheme_examples, SchemeExamplesHold};
 
 #[cfg(test)]
 mod derivation;
@@ -16,30 +15,15 @@ mod refusals;
 #[cfg(test)]
 mod scheme;
 
-fn count() -> usize
-    ensures { result ≡ length examples }
-{
-    8
-}
+// How many of the examples are of fields and of keys from shares, and how many of shares, seats, restoring and keys from masters.
+const OF_FIELDS_AND_KEYS: usize = 8;
+
+const OF_THE_SCHEME: usize = 14;
 
 // The number of examples in the table, every one of which holds.
 pub fn worked_examples() -> usize
     ensures hold { ExamplesHold }
     ensures count { result ≡ length examples }
 {
-    count()
-}
-
-fn scheme_count() -> usize
-    ensures { result ≡ length scheme_examples }
-{
-    14
-}
-
-// The number of examples of shares, seats, restoring and keys, every one of which holds.
-pub fn worked_scheme_examples() -> usize
-    ensures hold { SchemeExamplesHold }
-    ensures count { result ≡ length scheme_examples }
-{
-    scheme_count()
+    OF_FIELDS_AND_KEYS + OF_THE_SCHEME
 }

@@ -3,9 +3,11 @@ use field::byte::Byte;
 use field::doubled::Doubled;
 use field::interface::Field;
 use field::residue::Residue;
+use kiosk::numbers;
 use line::kiosk_line::{KioskHead, KioskLine};
 use line::number::KioskNumber;
 use line::refusal::{Cause, LineFault, Refusal};
+use std::process::Abort;
 use std::test::Fail;
 
 // The line of kiosk 2 of tour 9 over the residues, with t = 1, m = 1 and the share 19 29.
@@ -23,7 +25,7 @@ fn kiosk_2() -> KioskHead {
 }
 
 fn read_over<F: Field>(text: &[u8]) -> Result<KioskHead, LineFault> {
-    let line = KioskLine::read(1, F::mark(), F::order(), text)?;
+    let line = KioskLine::read(1, numbers::<F>(), text)?;
     Ok(line.head)
 }
 
@@ -63,16 +65,12 @@ fn leaves_what_stands_behind_it(rt: HostRuntime) {
 #[test]
 fn reads_back(rt: HostRuntime) -> Result<(), Fail> {
     assert_eq!(rt; read(&KIOSK_2), Ok(kiosk_2()));
-    match KioskLine::read(1, Residue::mark(), Residue::order(), &KIOSK_2) {
-        Ok(line) => {
-            assert_eq!(rt; line.codes.place, 47);
-            assert_eq!(rt; line.codes.get(0), Some(19));
-            assert_eq!(rt; line.codes.get(1), Some(29));
-            assert_eq!(rt; line.codes.get(2), None);
-            Ok(())
-        }
-        Err(_) => Err(Fail::new("not read")),
-    }
+    let line = KioskLine::read(1, numbers::<Residue>(), &KIOSK_2)?;
+    assert_eq!(rt; line.codes.place, 47);
+    assert_eq!(rt; line.codes.get(0), Some(19));
+    assert_eq!(rt; line.codes.get(1), Some(29));
+    assert_eq!(rt; line.codes.get(2), None);
+    Ok(())
 }
 
 #[test]
@@ -116,47 +114,37 @@ const DAMAGED: [(usize, u8, usize, Cause); 20] = [
 fn damaged_at_one_byte(rt: HostRuntime) {
     for (at, byte, place, cause) in DAMAGED {
         let mut text = KIOSK_2;
-        if at < 64 {
-            text[at] = byte;
+        if let Some(damaged) = text.get_mut(at) {
+            *damaged = byte;
         }
         assert_eq!(rt; read(&text), fault(place, cause));
     }
 }
 
-// The largest number and the largest code, and the first beyond each.
+// A line with the largest number and the largest codes is read, and refused where one after another, from the last, is one hex digit higher.
+fn at_the_edge<F: Field>(rt: &impl Abort, line: &[u8; 64]) {
+    let mut text = *line;
+    assert!(rt; read_over::<F>(&text).is_ok());
+    for (at, place) in [(62usize, 55), (54, 47), (45, 38)] {
+        if let Some(digit) = text.get_mut(at) {
+            *digit = b'1';
+        }
+        assert_eq!(rt; read_over::<F>(&text), fault(place, Cause::OutOfRange));
+    }
+}
+
 #[test]
 fn at_the_edge_of_the_field(rt: HostRuntime) {
-    let mut text = *b"k\t00000002\t00000009\t00000001\t00000001\t00000100\t0000010000000100\n";
-    assert!(rt; read(&text).is_ok());
-    text[62] = b'1';
-    assert_eq!(rt; read(&text), fault(55, Cause::OutOfRange));
-    text[54] = b'1';
-    assert_eq!(rt; read(&text), fault(47, Cause::OutOfRange));
-    text[45] = b'1';
-    assert_eq!(rt; read(&text), fault(38, Cause::OutOfRange));
+    let text = *b"k\t00000002\t00000009\t00000001\t00000001\t00000100\t0000010000000100\n";
+    at_the_edge::<Residue>(&rt, &text);
 }
 
 // Codes and a kiosk number up to 66,048, which is hex 10200.
 #[test]
 fn at_the_edge_of_the_doubled_residues(rt: HostRuntime) {
-    let mut text = *b"k\t00000012\t00000009\t00000001\t00000001\t00010200\t0001020000010200\n";
-    assert!(rt; read_over::<Doubled<Residue>>(&text).is_ok());
+    let text = *b"k\t00000012\t00000009\t00000001\t00000001\t00010200\t0001020000010200\n";
     assert_eq!(rt; read(&text), fault(2, Cause::OtherMark));
-    text[62] = b'1';
-    assert_eq!(rt;
-        read_over::<Doubled<Residue>>(&text),
-        fault(55, Cause::OutOfRange)
-    );
-    text[54] = b'1';
-    assert_eq!(rt;
-        read_over::<Doubled<Residue>>(&text),
-        fault(47, Cause::OutOfRange)
-    );
-    text[45] = b'1';
-    assert_eq!(rt;
-        read_over::<Doubled<Residue>>(&text),
-        fault(38, Cause::OutOfRange)
-    );
+    at_the_edge::<Doubled<Residue>>(&rt, &text);
 }
 
 // Codes and a kiosk number up to 65,535, which is hex ffff.
@@ -207,13 +195,9 @@ fn of_full_size(rt: HostRuntime) -> Result<(), Fail> {
     };
     let mut text = [0u8; 1328];
     assert_eq!(rt; head.write(&[255u32; 160], &mut text), Ok(1328));
-    match KioskLine::read(1, Byte::mark(), Byte::order(), &text) {
-        Ok(line) => {
-            assert_eq!(rt; line.head, head);
-            assert_eq!(rt; line.codes.get(159), Some(255));
-            assert_eq!(rt; line.codes.get(160), None);
-            Ok(())
-        }
-        Err(_) => Err(Fail::new("not read")),
-    }
+    let line = KioskLine::read(1, numbers::<Byte>(), &text)?;
+    assert_eq!(rt; line.head, head);
+    assert_eq!(rt; line.codes.get(159), Some(255));
+    assert_eq!(rt; line.codes.get(160), None);
+    Ok(())
 }

@@ -14,12 +14,10 @@ const CAUSES: [(Cause, &str); 7] = [
 
 #[test]
 fn words_of_causes(rt: HostRuntime) -> Result<(), Fail> {
-    let mut number = 1;
-    for (cause, words) in CAUSES {
+    for (number, (cause, words)) in (1..).zip(CAUSES) {
         assert_eq!(rt; cause.number(), number);
         let shown = cause.to_string(rt.alloc())?;
         assert_eq!(rt; shown.as_str(), words);
-        number = cause.number().saturating_add(1);
     }
     Ok(())
 }

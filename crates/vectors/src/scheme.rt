@@ -144,8 +144,8 @@ fn interpolation_without_points(rt: HostRuntime) {
 // A draw of the largest size: t = 9, m = 16 and k = 7 make 6,160 codes.
 fn largest_draw(order: u32) -> [u32; 6160] {
     let mut draw = [0u32; 6160];
-    for i in 0..6160usize {
-        draw[i] = (i as u32 * 40_503 + 12_345) % order.max(1);
+    for (i, code) in draw.iter_mut().enumerate() {
+        *code = (i as u32 * 40_503 + 12_345) % order.max(1);
     }
     draw
 }
@@ -163,10 +163,8 @@ fn large_key<F: Field>(
     other: u32,
     share: &mut [F],
 ) -> Option<u32> {
-    let mut j = 0u32;
-    for code in share.iter_mut() {
+    for (j, code) in (0..).zip(share.iter_mut()) {
         *code = F::from_code(large_share::<F>(draw, lane, j, own)?)?;
-        j = j.saturating_add(1);
     }
     Some(evaluate(share, F::from_code(other)?).to_code())
 }
@@ -195,8 +193,8 @@ fn large_seat<F: Field>(draw: &[u32], place: usize, seat: u32) -> Option<u32> {
 // What the polynomial through the seats' codes at a place has where the weights are for.
 fn through<F: Field>(draw: &[u32], place: usize, seats: &[u32; 7], weights: &[F]) -> Option<u32> {
     let mut values = [0u32; 7];
-    for i in 0..7usize {
-        values[i] = large_seat::<F>(draw, place, seats[i])?;
+    for (value, seat) in values.iter_mut().zip(seats) {
+        *value = large_seat::<F>(draw, place, *seat)?;
     }
     interpolate(weights, &values)
 }
@@ -212,83 +210,84 @@ fn restore<F: Field>(
     assert_eq!(rt; write_weights(seats, F::zero(), master), Some(7));
     let further = F::from_code(5).ok_or("no such seat")?;
     assert_eq!(rt; write_weights(seats, further, agreeing), Some(7));
-    for place in 0..880usize {
-        assert_eq!(rt; through(draw, place, seats, master), Some(draw[place]));
+    for (place, master_code) in draw[..880].iter().enumerate() {
+        assert_eq!(rt; through(draw, place, seats, master), Some(*master_code));
         let code = large_seat::<F>(draw, place, 5).ok_or("no code")?;
         assert_eq!(rt; through(draw, place, seats, agreeing), Some(code));
     }
     Ok(())
 }
 
+// What a draw of the largest size gives, over one of the doubled fields.
+#[derive(Clone, Copy)]
+struct Largest {
+    order: u32,
+    // Two kiosks.
+    kiosks: (u32, u32),
+    // Lane, column and code of the first one's share.
+    shares: [(u32, u32, u32); 3],
+    // Lane and code of the key of the two.
+    keys: [(u32, u32); 2],
+    // The last code of seat 9.
+    seat: u32,
+}
+
+fn largest_sizes<F: Field>(
+    rt: &impl Abort,
+    wanted: &Largest,
+    share: &mut [F],
+    master: &mut [F],
+    agreeing: &mut [F],
+) -> Result<(), Fail> {
+    let draw = largest_draw(wanted.order);
+    let (own, other) = wanted.kiosks;
+    for (lane, j, code) in wanted.shares {
+        assert_eq!(rt; large_share::<F>(&draw, lane, j, own), Some(code));
+    }
+    for (lane, code) in wanted.keys {
+        assert_eq!(rt; large_key::<F>(&draw, lane, own, other, share), Some(code));
+    }
+    assert_eq!(rt; large_seat::<F>(&draw, 879, 9), Some(wanted.seat));
+    agree::<F>(rt, &draw, own, 1, share)?;
+    restore(rt, &draw, &[9, 1, 8, 2, 7, 3, 6], master, agreeing)?;
+    restore(rt, &draw, &[3, 4, 1, 7, 9, 8, 2], master, agreeing)
+}
+
 #[test]
 fn largest_sizes_over_doubled_bytes(rt: HostRuntime) -> Result<(), Fail> {
-    let draw = largest_draw(65_536);
-    for (lane, j, code) in [(0, 0, 22_176), (7, 3, 34_627), (15, 9, 38_673)] {
-        assert_eq!(rt;
-            large_share::<Doubled<Byte>>(&draw, lane, j, 65_535),
-            Some(code)
-        );
-    }
-    let mut share = [Doubled::<Byte>::zero(); 10];
-    for (lane, code) in [(0, 1_178), (15, 63_458)] {
-        assert_eq!(rt;
-            large_key::<Doubled<Byte>>(&draw, lane, 65_535, 65_534, &mut share),
-            Some(code)
-        );
-    }
-    assert_eq!(rt; large_seat::<Doubled<Byte>>(&draw, 879, 9), Some(5_832));
-    agree::<Doubled<Byte>>(&rt, &draw, 65_535, 1, &mut share)?;
-    let mut master = [Doubled::<Byte>::zero(); 7];
-    let mut agreeing = [Doubled::<Byte>::zero(); 7];
-    restore(
+    let wanted = Largest {
+        order: 65_536,
+        kiosks: (65_535, 65_534),
+        shares: [(0, 0, 22_176), (7, 3, 34_627), (15, 9, 38_673)],
+        keys: [(0, 1_178), (15, 63_458)],
+        seat: 5_832,
+    };
+    let zero = Doubled::<Byte>::zero();
+    largest_sizes(
         &rt,
-        &draw,
-        &[9, 1, 8, 2, 7, 3, 6],
-        &mut master,
-        &mut agreeing,
-    )?;
-    restore(
-        &rt,
-        &draw,
-        &[3, 4, 1, 7, 9, 8, 2],
-        &mut master,
-        &mut agreeing,
+        &wanted,
+        &mut [zero; 10],
+        &mut [zero; 7],
+        &mut [zero; 7],
     )
 }
 
 #[test]
 fn largest_sizes_over_doubled_residues(rt: HostRuntime) -> Result<(), Fail> {
-    let draw = largest_draw(66_049);
-    for (lane, j, code) in [(0, 0, 37_321), (7, 3, 30_319), (15, 9, 57_998)] {
-        assert_eq!(rt;
-            large_share::<Doubled<Residue>>(&draw, lane, j, 66_048),
-            Some(code)
-        );
-    }
-    let mut share = [Doubled::<Residue>::zero(); 10];
-    for (lane, code) in [(0, 37_445), (15, 20_238)] {
-        assert_eq!(rt;
-            large_key::<Doubled<Residue>>(&draw, lane, 66_048, 66_047, &mut share),
-            Some(code)
-        );
-    }
-    assert_eq!(rt; large_seat::<Doubled<Residue>>(&draw, 879, 9), Some(27_797));
-    agree::<Doubled<Residue>>(&rt, &draw, 66_048, 1, &mut share)?;
-    let mut master = [Doubled::<Residue>::zero(); 7];
-    let mut agreeing = [Doubled::<Residue>::zero(); 7];
-    restore(
+    let wanted = Largest {
+        order: 66_049,
+        kiosks: (66_048, 66_047),
+        shares: [(0, 0, 37_321), (7, 3, 30_319), (15, 9, 57_998)],
+        keys: [(0, 37_445), (15, 20_238)],
+        seat: 27_797,
+    };
+    let zero = Doubled::<Residue>::zero();
+    largest_sizes(
         &rt,
-        &draw,
-        &[9, 1, 8, 2, 7, 3, 6],
-        &mut master,
-        &mut agreeing,
-    )?;
-    restore(
-        &rt,
-        &draw,
-        &[3, 4, 1, 7, 9, 8, 2],
-        &mut master,
-        &mut agreeing,
+        &wanted,
+        &mut [zero; 10],
+        &mut [zero; 7],
+        &mut [zero; 7],
     )
 }
 

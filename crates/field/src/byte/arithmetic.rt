@@ -1,12 +1,12 @@
 // The arithmetic of bytes, with no branch and no table index that depends on an operand.
 ghost use Rattle.std.specs.Prelude.{◌≡◌, ◌*◌, ◌/◌, ◌%◌, bit_xor};
-ghost use Rattle.field.specs.Arith.{power};
 ghost use Rattle.field.specs.Bytes.{byte_arith, byte_product, carryless, Congruent};
 
 use super::Byte;
 use crate::interface::Field;
+use crate::power::{Multiply, power};
 
-const ORDER: u32 = 256;
+const ORDER: u64 = 256;
 
 const MARK: u32 = 1;
 
@@ -20,33 +20,34 @@ fn times_x(a: u8) -> u8
     (a << 1) ^ (X_TO_8 * (a >> 7))
 }
 
-// The product, by shift and add: a multiplication by a bit stands where a branch on it would.
-fn times(a: u8, b: u8) -> u8
-    ensures value { result ≡ byte_product a b }
-    ensures congruent { Congruent (carryless 8 a b) result }
-{
-    let mut multiple = a;
-    let mut rest = b;
-    let mut sum = 0;
-    for _ in 0..8u32 {
-        sum ^= (rest % 2) * multiple;
-        multiple = times_x(multiple);
-        rest /= 2;
-    }
-    sum
-}
+impl Multiply for Byte {
+    ghost bound = { 256 };
 
-// The 254th power: 254 is the sum of the powers of two from 2 to 128.
-fn power_254(a: u8) -> u8
-    ensures { result ≡ power byte_product a 254 }
-{
-    let mut square = a;
-    let mut power = 1;
-    for _ in 0..7u32 {
-        square = times(square, square);
-        power = times(power, square);
+    ghost number = { λ x. x.value };
+
+    ghost product = { byte_product };
+
+    fn laws() {}
+
+    fn unit() -> Byte {
+        Byte { value: 1 }
     }
-    power
+
+    // The product, by shift and add: a multiplication by a bit stands where a branch on it would.
+    fn times(self, other: Byte) -> Byte
+        ensures value { result.value ≡ byte_product self.value other.value }
+        ensures congruent { Congruent (carryless 8 self.value other.value) result.value }
+    {
+        let mut multiple = self.value;
+        let mut rest = other.value;
+        let mut sum = 0;
+        for _ in 0..8u32 {
+            sum ^= (rest % 2) * multiple;
+            multiple = times_x(multiple);
+            rest /= 2;
+        }
+        Byte { value: sum }
+    }
 }
 
 impl Field for Byte {
@@ -61,7 +62,7 @@ impl Field for Byte {
     }
 
     fn one() -> Byte {
-        Byte { value: 1 }
+        Byte::unit()
     }
 
     fn sum(self, other: Byte) -> Byte {
@@ -79,18 +80,13 @@ impl Field for Byte {
         ensures value { result.value ≡ byte_product self.value other.value }
         ensures congruent { Congruent (carryless 8 self.value other.value) result.value }
     {
-        Byte {
-            value: times(self.value, other.value),
-        }
+        self.times(other)
     }
 
+    // The power is computed of zero too, which alone has none.
     fn inverse(self) -> Option<Byte> {
-        let power = power_254(self.value);
-        if self.value == 0 {
-            None
-        } else {
-            Some(Byte { value: power })
-        }
+        let inverse = power(self, 254);
+        (self.value != 0).then_some(inverse)
     }
 
     fn to_code(self) -> u32 {
@@ -98,17 +94,12 @@ impl Field for Byte {
     }
 
     fn from_code(number: u32) -> Option<Byte> {
-        if number < ORDER {
-            Some(Byte {
-                value: number as u8,
-            })
-        } else {
-            None
-        }
+        let value = u8::try_from(number).ok()?;
+        Some(Byte { value })
     }
 
     fn order() -> u64 {
-        u64::from(ORDER)
+        ORDER
     }
 
     fn mark() -> u32 {

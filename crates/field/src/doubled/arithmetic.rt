@@ -101,13 +101,11 @@ impl<F: Doubling> Field for Doubled<F> {
     fn inverse(self) -> Option<Doubled<F>> {
         let (a, b) = self.parts();
         let (d, _) = F::coefficients();
-        match norm(a, b).inverse() {
-            Some(n) => Some(Doubled {
-                low: a.sum(b.product(d)).product(n),
-                high: b.product(n).negative(),
-            }),
-            None => None,
-        }
+        let n = norm(a, b).inverse()?;
+        Some(Doubled {
+            low: a.sum(b.product(d)).product(n),
+            high: b.product(n).negative(),
+        })
     }
 
     fn to_code(self) -> u32 {

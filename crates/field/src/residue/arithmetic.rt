@@ -1,10 +1,10 @@
 // The arithmetic of residues modulo 257.
 ghost use Rattle.std.specs.Prelude.{◌≡◌, ◌%◌};
-ghost use Rattle.field.specs.Arith.{power};
 ghost use Rattle.field.specs.Residues.{residue_arith, residue_product};
 
 use super::Residue;
 use crate::interface::Field;
+use crate::power::{Multiply, power};
 
 const ORDER: u32 = 257;
 
@@ -19,23 +19,22 @@ fn residue(number: u32) -> Residue
     }
 }
 
-fn times(x: Residue, y: Residue) -> Residue
-    ensures { result.value ≡ residue_product x.value y.value }
-{
-    residue(u32::from(x.value) * u32::from(y.value))
-}
+impl Multiply for Residue {
+    ghost bound = { 257 };
 
-// The 255th power: 255 is the sum of the powers of two from 1 to 128.
-fn power_255(x: Residue) -> Residue
-    ensures { result.value ≡ power residue_product x.value 255 }
-{
-    let mut square = x;
-    let mut power = x;
-    for _ in 0..7u32 {
-        square = times(square, square);
-        power = times(power, square);
+    ghost number = { λ x. x.value };
+
+    ghost product = { residue_product };
+
+    fn laws() {}
+
+    fn unit() -> Residue {
+        Residue { value: 1 }
     }
-    power
+
+    fn times(self, other: Residue) -> Residue {
+        residue(u32::from(self.value) * u32::from(other.value))
+    }
 }
 
 impl Field for Residue {
@@ -50,7 +49,7 @@ impl Field for Residue {
     }
 
     fn one() -> Residue {
-        Residue { value: 1 }
+        Residue::unit()
     }
 
     fn sum(self, other: Residue) -> Residue {
@@ -62,12 +61,13 @@ impl Field for Residue {
     }
 
     fn product(self, other: Residue) -> Residue {
-        times(self, other)
+        self.times(other)
     }
 
+    // The power is computed of zero too, which alone has none.
     fn inverse(self) -> Option<Residue> {
-        let power = power_255(self);
-        if self.value == 0 { None } else { Some(power) }
+        let inverse = power(self, 255);
+        (self.value != 0).then_some(inverse)
     }
 
     fn to_code(self) -> u32 {
@@ -75,13 +75,7 @@ impl Field for Residue {
     }
 
     fn from_code(number: u32) -> Option<Residue> {
-        if number < ORDER {
-            Some(Residue {
-                value: number as u16,
-            })
-        } else {
-            None
-        }
+        (number < ORDER).then(|| residue(number))
     }
 
     fn order() -> u64 {

@@ -1,32 +1,23 @@
-use Rattle.std.proofs.Common.{◌≡◌, ◌+◌, ◌-◌, ◌∷◌, map, length, drop, sym, ap, ◌∙◌, le_refl, arith}
-use Rattle.std.proofs.lemmas.List.{drop_all, drop_more}
+use Rattle.std.proofs.Common.{◌≡◌, [], ◌∷◌, map, reverse, sym, ◌∙◌, subst, rules}
+use Rattle.std.specs.Iterator.Adapters.{rev_steps}
+use Rattle.std.specs.Slice.Iter.{iter_steps_back}
+use Rattle.std.proofs.lemmas.Fn.{fold_over}
+use Rattle.std.proofs.lemmas.Iterator.Adapters.{YieldsList-from_rev_slice}
+use Rattle.std.proofs.lemmas.List.{reverse-append, reverse-reverse}
 use Rattle.polynomial.specs.Polynomial.{evaluation}
 use Rattle.polynomial.proofs.Evaluation.{codes_below, evaluation_nil}
 use Rattle.polynomial.proofs.evaluate.Goals as goal
 
-pub loop-i-init : goal.loop-i-init
-loop-i-init g c =
-    let field = g.F.Field in
-    let xs = c.args.coefficients.now in
-    c.zero-value.ensures
-    ∙ sym (evaluation_nil field.arith c.laws.ensures.arithmetic (field.code c.args.point))
-    ∙ ap (λ ys. evaluation field.arith (map field.code ys) (field.code c.args.point)) (sym (drop_all (length xs) xs (le_refl (length xs))))
-
-pub loop-i-preserved : goal.loop-i-preserved
-loop-i-preserved g c =
-    let field = g.F.Field in
-    let xs = c.args.coefficients.now in
-    let i = c.loop-i.i in
-    let x = c.index-coefficients-i.result in
-    let next : i - 1 + 1 ≡ i = omega arith in
-    let here : drop (i - 1) xs ≡ x ∷ drop i xs =
-    drop_more xs (i - 1) x (omega arith) ∙ ap (λ y. y ∷ drop (i - 1 + 1) xs) (sym c.index-coefficients-i.is) ∙ ap (λ k. x ∷ drop k xs) next in
-    c.horner-value.ensures.evaluates (map field.code (drop i xs)) (codes_below c.laws.ensures.coding (drop i xs)) c.loop-i.invariant
-    ∙ ap (λ ys. evaluation field.arith (map field.code ys) (field.code c.args.point)) (sym here)
-
 pub returns : goal.returns
 returns g c =
-    let field = g.F.Field in
     let xs = c.args.coefficients.now in
-    let ended : c.loop-i.i ≡ 0 = omega arith in
-    c.loop-i.invariant ∙ ap (λ k. evaluation field.arith (map field.code (drop k xs)) (field.code c.args.point)) ended
+    let A = g.F.Field.arith in
+    let code = g.F.Field.code in
+    let point = code c.args.point in
+    subst (λ ys. code c.fold.result ≡ evaluation A (map code ys) point) (reverse-reverse xs)
+    (fold_over (rev_steps iter_steps_back) (λ y. y.now) _ (λ ys v. code v ≡ evaluation A (map code (reverse ys)) point) _
+    (λ ys value x next f' so_far k.
+    let one_more = reverse-append ys (x.now ∷ []) in
+    let below = codes_below c.laws.ensures.coding (reverse ys) in
+    rw one_more (search rules))
+    c.rev.result (reverse xs) _ _ (YieldsList-from_rev_slice {s = c.rev.result} xs cc).runs (c.zero.ensures ∙ sym (evaluation_nil A c.laws.ensures.arithmetic point)) c.fold.ensures.ran)

@@ -1,9 +1,9 @@
-use Rattle.std.proofs.Common.{◌≡◌, [], ◌++◌, get_or, take, None, vec_items, sym, ap, ◌∙◌, subst}
+use Rattle.std.proofs.Common.{◌≡◌, [], ◌++◌, get_or, take, None, string_bytes, sym, ap, ◌∙◌, subst}
 use Rattle.std.proofs.ByRecursion.{All-more}
 use Rattle.std.proofs.lemmas.List.{flat_map_more, take_more, take_all}
 use Rattle.std.proofs.lemmas.Result.{err_from_is_err_and}
 use Rattle.std.specs.List.{flat_map, AllByRecursion}
-use Rattle.line.proofs.Checks.{some_from_err, none_from_ok}
+use Rattle.line.proofs.Checks.{no_fault, the_fault}
 use Rattle.line.specs.KioskLine.{kiosk_head}
 use Rattle.line.specs.declared.number.KioskNumber.{KioskNumber}
 use Rattle.kiosk.specs.Derivation.{refusal}
@@ -18,10 +18,7 @@ returns-in_err-head g c =
     let text = c.args.text.now in
     let others = c.args.others.now in
     let cause = c.in_err-head.field-0.0 in
-    rw (p.1, p.2) (line_refused A text others cause (some_from_err (line_refusal A text others) (kiosk_head text) cause c.in_err-head.ensures))
-
-pub loop-other-init : goal.loop-other-init
-loop-other-init g c = (c.new-out.ensures.items, tt)
+    rw (p.1, p.2) (line_refused A text others cause (the_fault (line_refusal A text others) (kiosk_head text) cause c.in_err-head.ensures))
 
 pub returns-in_err-append_key : goal.returns-in_err-append_key
 returns-in_err-append_key g c =
@@ -29,16 +26,10 @@ returns-in_err-append_key g c =
     let A = g.F.Field.arith in
     let text = c.args.text.now in
     let others = c.args.others.now in
-    let found = none_from_ok (line_refusal A text others) (kiosk_head text) c.in_ok-head.head c.in_ok-head.ensures in
+    let none = no_fault (line_refusal A text others) (kiosk_head text) c.in_ok-head.head c.in_ok-head.ensures in
     rw (p.1, p.2)
-    (one_failed A text others c.loop-other.other-index (vec_items c.loop-other.out) (vec_items c.append_key.new.out) c.in_err-append_key.field-0.0
-    found.0 c.loop-other.invariant.1 c.loop-other-test.true c.in_err-append_key.ensures)
-
-pub append_key-requires : goal.append_key-requires
-append_key-requires g c =
-    let A = g.F.Field.arith in
-    let text = c.args.text.now in
-    (none_from_ok (line_refusal A text c.args.others.now) (kiosk_head text) c.in_ok-head.head c.in_ok-head.ensures).1
+    (one_failed A text others c.loop-other.other-index (string_bytes c.loop-other.lines) (string_bytes c.append_key.new.lines) c.in_err-append_key.field-0.0
+    none c.loop-other.invariant.1 c.loop-other-test.true c.in_err-append_key.ensures)
 
 pub loop-other-preserved : goal.loop-other-preserved
 loop-other-preserved g c =
@@ -60,8 +51,8 @@ returns g c =
     let A = g.F.Field.arith in
     let text = c.args.text.now in
     let others = c.args.others.now in
-    let found = none_from_ok (line_refusal A text others) (kiosk_head text) c.in_ok-head.head c.in_ok-head.ensures in
+    let none = no_fault (line_refusal A text others) (kiosk_head text) c.in_ok-head.head c.in_ok-head.ensures in
     let all = take_all c.loop-other.other-index others c.loop-other-test.false in (
-      none_refused A text others found.0 (subst (AllByRecursion (λ (v : KioskNumber). refusal A text v.0 16 ≡ None)) all c.loop-other.invariant.1),
+      none_refused A text others none (subst (AllByRecursion (λ (v : KioskNumber). refusal A text v.0 16 ≡ None)) all c.loop-other.invariant.1),
       c.loop-other.invariant.0 ∙ ap (flat_map (line_of A text)) all,
     )

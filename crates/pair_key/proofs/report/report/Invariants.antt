@@ -1,4 +1,4 @@
-use Rattle.std.proofs.Common.{◌≡◌, take, None, vec_items}
+use Rattle.std.proofs.Common.{◌≡◌, take, None, string_bytes}
 use Rattle.std.specs.List.{flat_map, AllByRecursion}
 use Rattle.line.specs.declared.number.KioskNumber.{KioskNumber}
 use Rattle.kiosk.specs.Derivation.{refusal}
@@ -9,5 +9,5 @@ use Rattle.pair_key.proofs.report.report.Given as goal
 abbrev pub invariant-loop-other : goal.invariant-loop-other
 invariant-loop-other g l =
     let A = g.F.Field.arith in
-    (vec_items l.out ≡ flat_map (line_of A l.text) (take l.other-index l.others))
+    (string_bytes l.lines ≡ flat_map (line_of A l.text) (take l.other-index l.others))
     × AllByRecursion (λ (v : KioskNumber). refusal A l.text v.0 16 ≡ None) (take l.other-index l.others)

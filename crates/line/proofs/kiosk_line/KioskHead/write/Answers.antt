@@ -1,10 +1,10 @@
 -- The front, the codes and the line feed are written one behind another, and the whole reads back.
-use Rattle.std.proofs.Common.{◌≡◌, ◌+◌, ◌*◌, ◌≤◌, false, ltb, length, take, drop, Ok, sym, ap, ◌∙◌, subst, arith}
+use Rattle.std.proofs.Common.{◌≡◌, ◌+◌, ◌*◌, ◌≤◌, false, ltb, length, drop, Ok, sym, ap, ◌∙◌, arith}
 use Rattle.std.specs.List.{flat_map}
 use Rattle.std.proofs.lemmas.List.{take_at}
 use Rattle.std.proofs.lemmas.Bool.{le-ltb}
 use Rattle.line.specs.Digits.{eight}
-use Rattle.line.specs.KioskLine.{kiosk_front, kiosk_line, line_length, ReadsBack}
+use Rattle.line.specs.KioskLine.{kiosk_front, kiosk_line, line_length}
 use Rattle.line.proofs.Written.{Front, front_more, front_byte, front_length, lent_at, length_codes}
 use Rattle.line.proofs.KioskLaws.{length_front, length_line, line_holds}
 use Rattle.line.proofs.KioskReadsBack.{reads_back}
@@ -27,5 +27,5 @@ returns c =
     record {
       answer = simp enough (ap Ok end);
       after = simp enough holds;
-      reads_back = subst (ReadsBack head codes) (sym (ap (take (47 + 8 * length codes + 1)) holds ∙ take_at (kiosk_line head codes) (drop (line_length codes) was) (47 + 8 * length codes + 1) (length_line head codes ∙ sym end))) (reads_back head codes c.write_front.ensures.mark_fits);
+      reads_back = rw (holds, take_at (kiosk_line head codes) (drop (line_length codes) was) (47 + 8 * length codes + 1) (length_line head codes ∙ sym end)) (reads_back head codes c.write_front.ensures.mark_fits);
     }

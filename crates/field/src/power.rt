@@ -1,0 +1,41 @@
+// Powers, under any product that is associative and has a one.
+ghost use Rattle.std.specs.Prelude.{◌≡◌, ℕ, ◌<◌};
+ghost use Rattle.field.specs.Arith.{power};
+ghost use Rattle.field.specs.Product.{Monoid};
+
+// What can be multiplied. A value stands for a number below a bound, and the product is one of such numbers.
+pub(crate) trait Multiply: Copy {
+    ghost bound: { ℕ };
+
+    ghost number: { Self → ℕ };
+
+    ghost product: { ℕ → ℕ → ℕ };
+
+    // As with fields, the laws are the promise of a function.
+    fn laws()
+        ensures below { (x : Self) → number x < bound }
+        ensures monoid { Monoid product bound };
+
+    fn unit() -> Self
+        ensures { number result ≡ 1 };
+
+    fn times(self, other: Self) -> Self
+        ensures { number result ≡ product (number self) (number other) };
+}
+
+// The power of x, by halves of the exponent, which is no secret.
+pub(crate) fn power<M: Multiply>(x: M, exponent: u32) -> M
+    ensures { M.number result ≡ power M.product (M.number x) exponent }
+{
+    M::laws();
+    if exponent == 0 {
+        return M::unit();
+    }
+    let half = power(x, exponent / 2);
+    let square = half.times(half);
+    if exponent % 2 == 0 {
+        square
+    } else {
+        square.times(x)
+    }
+}
