@@ -75,12 +75,6 @@ module _ (A : Arith) (L : Laws A) (d e : ℕ) (hd : d < A.order) (he : e < A.ord
   constant_code : (a : Code A) → of (constant R δ ε a) ≡ a.0
   constant_code a = ap (λ n. a.0 + n) (mul-zero A.order) ∙ add-zero a.0
 
-  zero_code : of P.zero ≡ 0
-  zero_code = constant_code R.zero
-
-  one_code : of P.one ≡ 1
-  one_code = constant_code R.one
-
   w_code : of (w R δ ε) ≡ A.order
   w_code = zero-add (A.order * 1) ∙ mul-one A.order
 
@@ -121,7 +115,7 @@ module _ (A : Arith) (L : Laws A) (d e : ℕ) (hd : d < A.order) (he : e < A.ord
 
   inverse_zero : D.inverse 0 ≡ None
   inverse_zero =
-      ap D.inverse (sym zero_code)
+      ap D.inverse (sym (constant_code R.zero))
       ∙ ap (λ (p : Pair). pair_inverse A d e p.0.0 p.1.0) (parts_of P.zero)
       ∙ ap (λ (n : Code A). option_map (pair_over A d e 0 0) (A.inverse n.0)) (ring R (δ ∷ ε ∷ []) (norm_of (#0, #0)) #0 refl)
       ∙ ap (option_map (pair_over A d e 0 0)) L.inverse_zero
@@ -131,12 +125,12 @@ module _ (A : Arith) (L : Laws A) (d e : ℕ) (hd : d < A.order) (he : e < A.ord
     nonzero_norm (a, b) nonzero none =
         let no_root = λ (z : Code A) (root : R.mul z z ≡ R.add (R.mul δ z) ε). rootless z.0 z.1 (ap (λ (c : Code A). c.0) root) in
         let (a_zero, b_zero) = norm_zero (codes_field A L) δ ε no_root a b (same_code A (norm R δ ε a b) R.zero none) in
-        nonzero (ap (λ c. of (c, b)) a_zero ∙ ap (λ c. of (R.zero, c)) b_zero ∙ zero_code)
+        nonzero (ap (λ c. of (c, b)) a_zero ∙ ap (λ c. of (R.zero, c)) b_zero ∙ constant_code R.zero)
 
     over_unit : (x : ℕ) (h : x < D.order) (n : Code A) → R.mul (norm R δ ε (parts x h).0 (parts x h).1) n ≡ R.one → D.product x (of (over R δ ε (parts x h).0 (parts x h).1 n)) ≡ 1
     over_unit x h n unit =
         let (a, b) = parts x h in
-        right P.mul (a, b) (over R δ ε a b n) ∙ ap of (over_inverts R δ ε a b n unit) ∙ one_code
+        right P.mul (a, b) (over R δ ε a b n) ∙ ap of (over_inverts R δ ε a b n unit) ∙ constant_code R.one
 
     inverse_else : (x : ℕ) → x < D.order → (x ≡ 0 → ⊥) → (y : ℕ) × (D.inverse x ≡ Some y) × (y < D.order) × (D.product x y ≡ 1)
     inverse_else x h nonzero =
@@ -160,15 +154,15 @@ module _ (A : Arith) (L : Laws A) (d e : ℕ) (hd : d < A.order) (he : e < A.ord
           let Z = parts z hz in
           left P.add (P.add X Y) Z ∙ ap of (P.add_assoc X Y Z) ∙ sym (right P.add X (P.add Y Z));
       sum_comm = λ x y hx hy. ap of (P.add_comm (parts x hx) (parts y hy));
-      sum_zero = λ x h. ap (λ n. D.sum n x) (sym zero_code) ∙ left P.add P.zero (parts x h) ∙ ap of (P.zero_add (parts x h)) ∙ of_parts x h;
-      sum_negative = λ x h. right P.add (parts x h) (P.neg (parts x h)) ∙ ap of (P.add_neg (parts x h)) ∙ zero_code;
+      sum_zero = λ x h. ap (λ n. D.sum n x) (sym (constant_code R.zero)) ∙ left P.add P.zero (parts x h) ∙ ap of (P.zero_add (parts x h)) ∙ of_parts x h;
+      sum_negative = λ x h. right P.add (parts x h) (P.neg (parts x h)) ∙ ap of (P.add_neg (parts x h)) ∙ constant_code R.zero;
       product_assoc = λ x y z hx hy hz.
           let X = parts x hx in
           let Y = parts y hy in
           let Z = parts z hz in
           left P.mul (P.mul X Y) Z ∙ ap of (P.mul_assoc X Y Z) ∙ sym (right P.mul X (P.mul Y Z));
       product_comm = λ x y hx hy. ap of (P.mul_comm (parts x hx) (parts y hy));
-      product_one = λ x h. ap (λ n. D.product n x) (sym one_code) ∙ left P.mul P.one (parts x h) ∙ ap of (P.one_mul (parts x h)) ∙ of_parts x h;
+      product_one = λ x h. ap (λ n. D.product n x) (sym (constant_code R.one)) ∙ left P.mul P.one (parts x h) ∙ ap of (P.one_mul (parts x h)) ∙ of_parts x h;
       distributes = λ x y z hx hy hz.
           let X = parts x hx in
           let Y = parts y hy in

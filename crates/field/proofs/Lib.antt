@@ -3,7 +3,6 @@ pub mod Solve
 pub mod Codes
 pub mod Pairs
 pub mod DoubledLaws
-pub mod Checks
 pub mod Powers
 pub mod Xor
 pub mod Bytes

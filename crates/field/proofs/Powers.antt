@@ -1,9 +1,8 @@
 -- Powers under a product that is associative and has the neutral number 1.
-use Rattle.std.proofs.Common.{◌≡◌, ℕ, zero, suc, ◌+◌, ◌/◌, ◌%◌, ◌^◌, ◌<◌, Bool, true, cond, ◌||◌, eqb, sym, refl, ap, ◌∙◌, ⊎_elim, suc-add, zero-add, arith}
-use Rattle.std.proofs.lemmas.Bool.{eqb-true, eq-eqb, ne_eqb, cases_eq, or_cases}
+use Rattle.std.proofs.Common.{◌≡◌, ℕ, zero, suc, ◌+◌, ◌/◌, ◌%◌, ◌^◌, ◌<◌, Bool, true, not, cond, eqb, sym, refl, ap, ◌∙◌, ⊎_elim, suc-add, zero-add, arith}
+use Rattle.std.proofs.lemmas.Bool.{eqb-true, eq-eqb, ne_eqb, cases_eq, not_from_false, agree_below, agree_below_at}
 use Rattle.field.specs.Arith.{power}
 use Rattle.field.specs.Product.{Monoid}
-use Rattle.field.proofs.Checks.{all_below, at}
 
 -- the power n from the power h, where h is n / 2
 abbrev from_half : (ℕ → ℕ → ℕ) → ℕ → ℕ → ℕ → ℕ
@@ -32,17 +31,14 @@ module _ {product : ℕ → ℕ → ℕ} {order : ℕ} (M : Monoid product order
   unfolding power
   power_zero = refl
 
-  pub power_one : power product x 1 ≡ x
-  unfolding power
-  power_one = M.one_right x x_below
-
   pub power_even : (n : ℕ) → n % 2 ≡ 0 → product (power product x (n / 2)) (power product x (n / 2)) ≡ power product x n
   power_even n even = sym (power_add (n / 2) (n / 2)) ∙ ap (power product x) (omega arith)
 
   pub power_odd : (n : ℕ) → (n % 2 ≡ 0 → ⊥) → product (product (power product x (n / 2)) (power product x (n / 2))) x ≡ power product x n
+  unfolding power
   power_odd n odd =
       ap (λ p. product p x) (sym (power_add (n / 2) (n / 2)))
-      ∙ ap (product (power product x (n / 2 + n / 2))) (sym power_one)
+      ∙ ap (product (power product x (n / 2 + n / 2))) (sym (M.one_right x x_below))
       ∙ sym (power_add (n / 2 + n / 2) 1)
       ∙ ap (power product x) (omega arith)
 
@@ -55,11 +51,11 @@ module _ {product : ℕ → ℕ → ℕ} {order : ℕ} (M : Monoid product order
   by_halves_is zero n h = sym (ap (power product x) (omega arith) ∙ power_zero)
   by_halves_is (suc k) n h = ap (from_half product x n) (by_halves_is k (n / 2) (omega (arith, h))) ∙ from_half_is n
 
--- the test that a map answers an inverse of every number below the order but zero
+-- the test that a map answers an inverse of every number below the order but zero, and none of zero
 abbrev pub inverts : (ℕ → ℕ → ℕ) → ℕ → (ℕ → ℕ) → Bool
-inverts product order inverse = all_below order (λ x. eqb x 0 || eqb (product x (inverse x)) 1)
+inverts product order inverse = agree_below (λ x. eqb (product x (inverse x)) 1) (λ x. not (eqb x 0)) order
 
 pub inverts_at : (product : ℕ → ℕ → ℕ) (order : ℕ) (inverse : ℕ → ℕ) → inverts product order inverse ≡ true → (x : ℕ) → x < order → (x ≡ 0 → ⊥) → product x (inverse x) ≡ 1
 inverts_at product order inverse passed x below nonzero =
-    ⊎_elim (λ e. absurd (nonzero (eqb-true x 0 e))) (eqb-true (product x (inverse x)) 1)
-    (or_cases (eqb x 0) (eqb (product x (inverse x)) 1) (at order (λ y. eqb y 0 || eqb (product y (inverse y)) 1) passed x below))
+    eqb-true (product x (inverse x)) 1
+    (agree_below_at (λ y. eqb (product y (inverse y)) 1) (λ y. not (eqb y 0)) order x passed below ∙ not_from_false (eqb x 0) (ne_eqb x 0 nonzero))

@@ -1,26 +1,17 @@
 -- The residues modulo 257 keep the laws of a field.
-use Rattle.std.proofs.Common.{◌≡◌, ℕ, ◌+◌, ◌*◌, ◌/◌, ◌%◌, ◌<◌, true, sym, refl, ap, ◌∙◌, mod-eq_of_lt, mul_assoc, mul_comm, one-mul, mul-add, mul_left_comm, arith}
-use native.Mathlib.Nat.{add-mod, mul-add-mod_self_left, div-add-mod}
-use Rattle.std.proofs.lemmas.Nat.{mod_below}
+use Rattle.std.proofs.Common.{◌≡◌, ℕ, ◌+◌, ◌*◌, ◌%◌, ◌<◌, sym, refl, ap, ◌∙◌, mod-eq_of_lt, mul_assoc, mul_comm, one-mul, mul-add, arith}
+use native.Mathlib.Nat.{add-mod}
+use Rattle.std.proofs.lemmas.Nat.{mod_below, mul-mod_first, mul-mod_second}
 use Rattle.std.proofs.lemmas.Bool.{ne_eqb}
 use Rattle.field.specs.Arith.{Laws, Coding, power}
 use Rattle.field.specs.Residues.{residue_product, residue_arith}
 use Rattle.field.specs.declared.residue.Residue.{Residue}
 use Rattle.field.proofs.Codes.{Code, same_code}
 use Rattle.field.specs.Product.{Monoid}
-use Rattle.field.proofs.Powers.{power_below, by_halves, by_halves_is, inverts, inverts_at}
-
--- a factor may be reduced before the product is
-mul_mod_mod : (x y : ℕ) → (x * (y % 257)) % 257 ≡ (x * y) % 257
-mul_mod_mod x y =
-    sym (mul-add-mod_self_left 257 (x * (y / 257)) (x * (y % 257)))
-    ∙ ap (λ n. n % 257) (ap (λ n. n + x * (y % 257)) (mul_left_comm 257 x (y / 257)) ∙ sym (mul-add x (257 * (y / 257)) (y % 257)) ∙ ap (λ n. x * n) (div-add-mod y 257))
-
-mod_mul_mod : (x y : ℕ) → (x % 257 * y) % 257 ≡ (x * y) % 257
-mod_mul_mod x y = ap (λ n. n % 257) (mul_comm (x % 257) y) ∙ mul_mod_mod y x ∙ ap (λ n. n % 257) (mul_comm y x)
+use Rattle.field.proofs.Powers.{power_below, by_halves, by_halves_is, inverts_at}
 
 product_assoc : (x y z : ℕ) → residue_product (residue_product x y) z ≡ residue_product x (residue_product y z)
-product_assoc x y z = mod_mul_mod (x * y) z ∙ ap (λ n. n % 257) (mul_assoc x y z) ∙ sym (mul_mod_mod x (y * z))
+product_assoc x y z = mul-mod_first (x * y) z 257 ∙ ap (λ n. n % 257) (mul_assoc x y z) ∙ sym (mul-mod_second x (y * z) 257)
 
 product_comm : (x y : ℕ) → residue_product x y ≡ residue_product y x
 product_comm x y = ap (λ n. n % 257) (mul_comm x y)
@@ -40,13 +31,10 @@ residue_monoid = record {
   one_right = λ x h. product_comm x 1 ∙ product_one x h;
 }
 
-inverse_test : inverts residue_product 257 (λ x. by_halves residue_product 8 x 255) ≡ true
-unfolding by_halves
-inverse_test = refl
-
 power_inverse : (x : ℕ) → x < 257 → (x ≡ 0 → ⊥) → residue_product x (power residue_product x 255) ≡ 1
+unfolding by_halves
 power_inverse x h nonzero =
-    ap (residue_product x) (sym (by_halves_is residue_monoid x h 8 255 (omega arith))) ∙ inverts_at residue_product 257 (λ y. by_halves residue_product 8 y 255) inverse_test x h nonzero
+    ap (residue_product x) (sym (by_halves_is residue_monoid x h 8 255 (omega arith))) ∙ inverts_at residue_product 257 (λ y. by_halves residue_product 8 y 255) refl x h nonzero
 
 pub residue_laws : Laws residue_arith
 residue_laws = record {
@@ -63,7 +51,7 @@ residue_laws = record {
   product_assoc = λ x y z hx hy hz. product_assoc x y z;
   product_comm = λ x y hx hy. product_comm x y;
   product_one = product_one;
-  distributes = λ x y z hx hy hz. mul_mod_mod x (y + z) ∙ ap (λ n. n % 257) (mul-add x y z) ∙ add-mod (x * y) (x * z) 257;
+  distributes = λ x y z hx hy hz. mul-mod_second x (y + z) 257 ∙ ap (λ n. n % 257) (mul-add x y z) ∙ add-mod (x * y) (x * z) 257;
   inverse_zero = refl;
   inverse_else = λ x h nonzero. (power residue_product x 255, rw (ne_eqb x 0 nonzero), power_below residue_monoid x h 255, power_inverse x h nonzero);
 }

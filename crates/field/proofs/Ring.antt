@@ -41,6 +41,9 @@ module _ {E : Type 0} (R : Ring E) where
       let y = R.mul x R.zero in
       sym (neg_add_add y y) ∙ ap (R.add (R.neg y)) (sym (R.mul_add x R.zero R.zero) ∙ ap (R.mul x) (R.zero_add R.zero)) ∙ R.add_comm (R.neg y) y ∙ R.add_neg y
 
+  pub zero_mul : (x : E) → R.mul R.zero x ≡ R.zero
+  zero_mul x = R.mul_comm R.zero x ∙ mul_zero x
+
   -- (a + b) + (c + d) = (a + c) + (b + d)
   pub add_swap : (a b c d : E) → R.add (R.add a b) (R.add c d) ≡ R.add (R.add a c) (R.add b d)
   add_swap a b c d =

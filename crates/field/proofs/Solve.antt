@@ -3,7 +3,7 @@
 use Rattle.std.proofs.Common.{◌≡◌, ℕ, zero, suc, ◌+◌, ◌*◌, Bool, true, false, cond, ◌&&◌, eqb, ltb, leb, List, [], ◌∷◌, get_or, sym, refl, ap, ◌∙◌, suc-mul, suc-add, zero-add, zero-mul}
 use mathlib.Core.Bool.{false≢true}
 use Rattle.std.proofs.lemmas.Bool.{and_parts, eqb-true}
-use Rattle.field.proofs.Ring.{Ring, add_zero, mul_one, add_mul, mul_zero, add_swap, neg_add, neg_neg, neg_zero, mul_neg, neg_mul, equal}
+use Rattle.field.proofs.Ring.{Ring, add_zero, mul_one, add_mul, mul_zero, zero_mul, add_swap, neg_add, neg_neg, neg_zero, mul_neg, neg_mul, equal}
 
 pub data Expr : Type 0 where
   var : ℕ → Expr
@@ -154,7 +154,7 @@ module _ {E : Type 0} (R : Ring E) (values : List E) where
   times_mul_left (suc n) x y = ap (R.add (R.mul x y)) (times_mul_left n x y) ∙ sym (R.mul_add x y (times n y))
 
   times_mul : (m n : ℕ) (x y : E) → times (m * n) (R.mul x y) ≡ R.mul (times m x) (times n y)
-  times_mul zero n x y = ap (λ k. times k (R.mul x y)) (zero-mul n) ∙ sym (R.mul_comm R.zero (times n y) ∙ mul_zero R (times n y))
+  times_mul zero n x y = ap (λ k. times k (R.mul x y)) (zero-mul n) ∙ sym (zero_mul R (times n y))
   times_mul (suc m) n x y =
       ap (λ k. times k (R.mul x y)) (suc-mul m n)
       ∙ times_add (m * n) n (R.mul x y)
@@ -242,7 +242,7 @@ module _ {E : Type 0} (R : Ring E) (values : List E) where
       ∙ sym (R.mul_add (of_term s) (of_term t) (of_terms ts))
 
   times_all_is : (p q : List Term) → of_terms (times_all p q) ≡ R.mul (of_terms p) (of_terms q)
-  times_all_is [] q = sym (R.mul_comm R.zero (of_terms q) ∙ mul_zero R (of_terms q))
+  times_all_is [] q = sym (zero_mul R (of_terms q))
   times_all_is (s ∷ ss) q =
       plus_all_is (times_term s q) (times_all ss q)
       ∙ ap (λ w. R.add w (of_terms (times_all ss q))) (times_term_is s q)

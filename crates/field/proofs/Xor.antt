@@ -1,6 +1,7 @@
 -- Exclusive or on numbers, and maps that respect it, which are known by what they do to the powers of two.
 use Rattle.std.proofs.Common.{◌≡◌, ℕ, zero, suc, ◌-◌, ◌*◌, ◌/◌, ◌%◌, ◌^◌, ◌<◌, sym, ap, ◌∙◌, ⊎_elim, add-zero, one-mul, pow-suc, zero-mul, arith, pow_pos}
 use lib.Bits.{bit_xor, xor_zero_l, xor_zero_r, xor_assoc, xor_comm, xor_self, xor_block, xor_shifted, xor_shr, xor_mod, xor_lt}
+use Rattle.std.specs.Int.{bit_at}
 use Rattle.std.proofs.lemmas.Bool.{cases_lt}
 
 -- a map that takes exclusive or to exclusive or
@@ -39,11 +40,7 @@ xor_swap a b c d =
     ∙ ap (bit_xor a) (sym (xor_assoc b c d) ∙ ap (λ n. bit_xor n d) (xor_comm b c) ∙ xor_assoc c b d)
     ∙ sym (xor_assoc a c (bit_xor b d))
 
--- bit n of a number
-abbrev pub bit : ℕ → ℕ → ℕ
-bit n x = x / 2 ^ n % 2
-
-pub bit_additive : (n : ℕ) → Additive (bit n)
+pub bit_additive : (n : ℕ) → Additive (λ x. bit_at x n)
 bit_additive n x y = ap (λ m. m % 2) (xor_shr x y n) ∙ xor_mod (x / 2 ^ n) (y / 2 ^ n) 1
 
 pub shift_additive : (n : ℕ) → Additive (λ x. x * 2 ^ n)

@@ -35,7 +35,7 @@ pub trait Field: Copy {
     fn inverse(self) -> Option<Self>
         ensures { option_map code result ≡ arith.inverse (code self) };
 
-    // With `from_code`, a method and no `From`: that trait would need a law of its own to tie it to the code.
+    // `to_code` and `from_code` are methods rather than `From`, which would need a law of its own to tie it to the code.
     fn to_code(self) -> u32
         ensures { result ≡ code self };
 

@@ -3,7 +3,8 @@ ghost use Rattle.std.specs.Prelude.{◌≡◌, ℕ, ◌<◌};
 ghost use Rattle.field.specs.Arith.{power};
 ghost use Rattle.field.specs.Product.{Monoid};
 
-// What can be multiplied. A value stands for a number below a bound, and the product is one of such numbers.
+// What can be multiplied. A value stands for a number below a bound, and the product is one of such numbers. It is a trait of its own and
+// not `Field`: `inverse`, without which nothing is a field, is such a power.
 pub(crate) trait Multiply: Copy {
     ghost bound: { ℕ };
 
@@ -23,7 +24,7 @@ pub(crate) trait Multiply: Copy {
         ensures { number result ≡ product (number self) (number other) };
 }
 
-// The power of x, by halves of the exponent, which is no secret.
+// The power of x, by halving the exponent, which is no secret.
 pub(crate) fn power<M: Multiply>(x: M, exponent: u32) -> M
     ensures { M.number result ≡ power M.product (M.number x) exponent }
 {

@@ -18,7 +18,7 @@ use polynomial::evaluate_by;
 use std::marker::PhantomData;
 
 // The numbers by which a line's reader knows this field.
-pub fn numbers<F: Field>() -> FieldNumbers
+pub fn field_numbers<F: Field>() -> FieldNumbers
     ensures mark { result.mark ≡ F.Field.arith.mark }
     ensures order { result.order ≡ F.Field.arith.order }
 {
@@ -50,8 +50,8 @@ struct Share<'a, F: Field> {
 }
 
 impl<F: Field> Share<'_, F> {
-    // The code with this index.
-    fn code(&self, index: usize) -> F
+    // The element of the code with this index.
+    fn element(&self, index: usize) -> F
         requires { index < length (codes_in self.now.line.codes.text.now) }
         ensures { F.Field.code result ≡ slice_index (codes_in self.now.line.codes.text.now) index }
     {
@@ -59,13 +59,13 @@ impl<F: Field> Share<'_, F> {
         F::from_code(code).unwrap()
     }
 
-    // The code of a key in this lane: the value, at the other kiosk's number, of the polynomial that has the lane's codes for its coefficients.
+    // The element of the key's code in this lane: the value, at the other kiosk's number, of the polynomial that has the lane's codes for its coefficients.
     fn key_code(&self, lane: usize, point: F) -> F
         requires { lane < self.now.line.head.lanes }
         ensures { F.Field.code result ≡ evaluation F.Field.arith (take (self.now.line.head.degree + 1) (drop (lane * (self.now.line.head.degree + 1)) (codes_in self.now.line.codes.text.now))) (F.Field.code point) }
     {
         let width = self.line.head.degree as usize + 1;
-        evaluate_by(width, |j| Some(self.code(lane * width + j)), point).unwrap()
+        evaluate_by(width, |j| Some(self.element(lane * width + j)), point).unwrap()
     }
 
     // Writes the key that is shared with the kiosk of this number into the first places of a buffer.
@@ -86,7 +86,7 @@ pub fn derive<F: Field>(text: &[u8], other: KioskNumber, key: &mut [u32]) -> Res
     ensures answer { result ≡ answer F.Field.arith text.now other.0 key.old }
     ensures key { key.new ≡ left_in F.Field.arith text.now other.0 key.old }
 {
-    let line = KioskLine::read(1, numbers::<F>(), text)?;
+    let line = KioskLine::read(1, field_numbers::<F>(), text)?;
     let Some(point) = point::<F>(other) else {
         return Err(Refusal::NoSuchKiosk);
     };

@@ -6,9 +6,6 @@ use Rattle.std.proofs.lemmas.List.FromFn.{get_or-map-range_with_len, length-map-
 use Rattle.std.proofs.ByRecursion.{All-from_get_or, All-get_or}
 use Rattle.line.specs.Faults.{first, unless}
 
-pub some≢none : {X : Type 0} (x : X) → Some x ≡ None → ⊥
-some≢none x e = cc
-
 pub either : {X : Type 0} (o : Option X) → ((x : X) × (o ≡ Some x)) ⊎ (o ≡ None)
 either None = inr refl
 either (Some x) = inl (x, refl)
@@ -28,7 +25,7 @@ first_all (c ∷ checks) none = rw none.0 (first_all checks none.1)
 pub all_none : {X : Type 0} (checks : List (Option X)) → first checks ≡ None → AllByRecursion (λ c. c ≡ None) checks
 all_none [] e = tt
 all_none (None ∷ checks) e = (refl, all_none checks e)
-all_none (Some x ∷ checks) e = absurd (some≢none x e)
+all_none (Some x ∷ checks) e = cc
 
 -- Checks by a count
 module _ {X : Type 0} (f : ℕ → Option X) (n : ℕ) where
@@ -98,3 +95,5 @@ was_read (Some fault) x y e = cc
 pub the_fault : {X F : Type 0} (o : Option F) (x : X) (fault : F) → Err fault ≡ unless o x → o ≡ Some fault
 the_fault None x fault e = cc
 the_fault (Some found) x fault e = cc
+
+pub ruleset answered = (no_fault, was_read, the_fault)

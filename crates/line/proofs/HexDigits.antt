@@ -1,8 +1,9 @@
 -- Hex digits: what a byte that writes one tells, and numbers of any count of digits, written and read from the last digit on.
-use Rattle.std.proofs.Common.{◌≡◌, ℕ, zero, suc, ◌+◌, ◌*◌, ◌/◌, ◌%◌, ◌^◌, ◌<◌, ◌≤◌, List, [], ◌∷◌, ◌++◌, length, get_or, take, Some, unwrap_or, sym, refl, ap, ◌∙◌, inl, inr, pow-suc, arith, below_more}
+use Rattle.std.proofs.Common.{◌≡◌, ℕ, zero, suc, ◌+◌, ◌*◌, ◌/◌, ◌%◌, ◌^◌, ◌<◌, ◌≤◌, List, [], ◌∷◌, ◌++◌, length, get_or, take, Some, unwrap_or, sym, refl, ap, ◌∙◌, inl, inr, pow-suc, add-one, arith, below_more}
 use native.Mathlib.Nat.{div-div-eq-div-mul, pow-le-pow_right}
 use lib.Arith.{digits_div, digits_mod}
-use Rattle.std.proofs.lemmas.List.{take_more, get_or_past, length_push, get_or_append_left, get_or_push}
+use Rattle.std.proofs.lemmas.List.{get_or_past, length_push, get_or_append_left, get_or_push}
+use Rattle.std.proofs.Math.Seq.{take-suc}
 use Rattle.std.proofs.lemmas.Bool.{cases_lt}
 use Rattle.std.proofs.lemmas.Bool.Decides.{nat_tests}
 use Rattle.line.specs.Digits.{digit, digit_value, eight, value_after}
@@ -55,9 +56,9 @@ value_last_digits (suc k) n l =
     value_after_push 0 (last_digits k (n / 16)) (digit (n % 16)) ∙ simp (e, v) (omega arith)
 
 -- one digit more is read
-pub value_more : (xs : List ℕ) (i d : ℕ) → digit_value (get_or xs i 0) ≡ Some d → value_after 0 (take (i + 1) xs) ≡ value_after 0 (take i xs) * 16 + d
+pub value_more : (xs : List ℕ) (i d : ℕ) → digit_value (get_or xs i 0) ≡ Some d → value_after 0 (take (suc i) xs) ≡ value_after 0 (take i xs) * 16 + d
 value_more xs i d e =
-    ap (value_after 0) (take_more xs i 0 (digit_within xs i d e))
+    ap (value_after 0) (take-suc xs i 0 (digit_within xs i d e))
     ∙ value_after_push 0 (take i xs) (get_or xs i 0)
     ∙ ap (λ o. value_after 0 (take i xs) * 16 + unwrap_or o 0) e
 
@@ -68,21 +69,15 @@ Hexes xs n = (k : ℕ) → k < n → (d : ℕ) × (digit_value (get_or xs k 0) �
 pub value_small : (xs : List ℕ) (n : ℕ) → Hexes xs n → value_after 0 (take n xs) < 16 ^ n
 value_small xs zero h = omega arith
 value_small xs (suc n) h =
-    let d = (h n (omega arith)).0 in
-    let e = (h n (omega arith)).1 in
-    let p : 16 ^ suc n ≡ 16 ^ n * 16 = pow-suc 16 n in
-    let small = digit_small (get_or xs n 0) d e in
-    let next : suc n ≡ n + 1 = omega arith in
-    let step : value_after 0 (take (suc n) xs) ≡ value_after 0 (take n xs) * 16 + d = ap (λ m. value_after 0 (take m xs)) next ∙ value_more xs n d e in
-    let before = value_small xs n (λ k l. h k (omega arith)) in
-    omega arith
+    let (d, e) = h n (omega arith) in
+    omega (arith, pow-suc 16 n, digit_small (get_or xs n 0) d e, value_more xs n d e, value_small xs n (λ k l. h k (omega arith)))
 
 -- and their number is v
 abbrev pub Digits : List ℕ → ℕ → ℕ → Type 0
 Digits xs n v = Hexes xs n × (v ≡ value_after 0 (take n xs))
 
 pub digit_more : (xs : List ℕ) (n v d : ℕ) → Digits xs n v → digit_value (get_or xs n 0) ≡ Some d → Digits xs (n + 1) (v * 16 + d)
-digit_more xs n v d digits e = (below_more _ _ digits.0 (d, e), ap (λ m. m * 16 + d) digits.1 ∙ sym (value_more xs n d e))
+digit_more xs n v d digits e = (below_more _ _ digits.0 (d, e), rw (add-one n) (ap (λ m. m * 16 + d) digits.1 ∙ sym (value_more xs n d e)))
 
 -- eight digits fit 32 bits
 pub digits_fit : (xs : List ℕ) (n v : ℕ) → n ≤ 8 → Digits xs n v → v < 2 ^ 32
@@ -93,20 +88,15 @@ digits_fit xs n v few digits =
 pub last_digits_value : (xs : List ℕ) (n : ℕ) → Hexes xs n → last_digits n (value_after 0 (take n xs)) ≡ take n xs
 last_digits_value xs zero h = refl
 last_digits_value xs (suc n) h =
-    let d = (h n (omega arith)).0 in
-    let e = (h n (omega arith)).1 in
+    let (d, e) = h n (omega arith) in
     let small = digit_small (get_or xs n 0) d e in
     let v = value_after 0 (take n xs) in
-    let next : suc n ≡ n + 1 = omega arith in
-    let step : value_after 0 (take (suc n) xs) ≡ v * 16 + d = ap (λ m. value_after 0 (take m xs)) next ∙ value_more xs n d e in
-    let before = last_digits_value xs n (λ k l. h k (omega arith)) in
-    let more : take n xs ++ (get_or xs n 0 ∷ []) ≡ take (suc n) xs = sym (ap (λ m. take m xs) next ∙ take_more xs n 0 (digit_within xs n d e)) in
-    ap (last_digits (suc n)) step
+    ap (last_digits (suc n)) (value_more xs n d e)
     ∙ ap (λ m. last_digits n m ++ (digit ((v * 16 + d) % 16) ∷ [])) (digits_div v small)
     ∙ ap (λ r. last_digits n v ++ (digit r ∷ [])) (digits_mod v small)
     ∙ ap (λ b. last_digits n v ++ (b ∷ [])) (digit_back (get_or xs n 0) d e)
-    ∙ ap (λ bs. bs ++ (get_or xs n 0 ∷ [])) before
-    ∙ more
+    ∙ ap (λ bs. bs ++ (get_or xs n 0 ∷ [])) (last_digits_value xs n (λ k l. h k (omega arith)))
+    ∙ sym (take-suc xs n 0 (digit_within xs n d e))
 
 -- where digits are written, digits stand
 pub hexes_last_digits : (k n : ℕ) → Hexes (last_digits k n) k

@@ -5,29 +5,14 @@ use Rattle.std.proofs.lemmas.Bool.Decides.{nat_tests}
 use Rattle.line.specs.declared.refusal.Cause.TheVariants.{WrongLetter, NoTab, NoLineFeed}
 use Rattle.line.specs.declared.refusal.LineFault.{LineFault}
 use Rattle.line.specs.Faults.{first}
-use Rattle.line.specs.Digits.{number_at}
 use Rattle.line.specs.Steps.{fault, byte_fault, codes_fault, end_fault}
 use Rattle.line.specs.KioskLine.{share_size, kiosk_line, kiosk_head, head_fault, kiosk_fault, Read, reading, missing, CutShort}
 use Rattle.line.proofs.Checks.{no_fault, was_read, Passes, passes}
-use Rattle.line.proofs.Cut.{AtCut, HexBetween, number_cut, byte_cut, field_cut, codes_cut}
+use Rattle.line.proofs.Cut.{AtCut, number_cut, byte_cut, field_cut, codes_cut}
 use Rattle.line.proofs.KioskLaws.{mark_bounds, tour_bounds, degree_bounds, lanes_bounds, number_bounds, head_each, tab_check, line_each}
 use Rattle.line.proofs.KioskPlaces.{head_passes}
 use Rattle.line.proofs.KioskReadsBack.{reads_back}
 use Rattle.line.proofs.Standing.{end_stands}
-
--- The cause by the place
-
-missing_field : (size i : ℕ) → i < 5 → HexBetween (missing size) (9 * i + 2) (9 * i + 10)
-unfolding missing
-missing_field size i l k from below = grind (arith, nat_tests)
-
-missing_code : (size : ℕ) → HexBetween (missing size) 47 (47 + 8 * size)
-unfolding missing
-missing_code size k from below = grind (arith, nat_tests)
-
-missing_feed : (size : ℕ) → missing size (47 + 8 * size) ≡ NoLineFeed
-unfolding missing
-missing_feed size = grind (arith, nat_tests)
 
 -- Of a text in which no fault is found, the first n bytes
 module _ (line mark order n : ℕ) (whole : List ℕ) (none : kiosk_fault line mark order whole ≡ None) where
@@ -40,21 +25,16 @@ module _ (line mark order n : ℕ) (whole : List ℕ) (none : kiosk_fault line m
       let each = head_each line mark order whole (line_each line mark order whole none).0 in
       head_passes line mark order (take n whole) n (AtCut line n (missing size))
       (byte_cut line n whole (missing size) 0 107 WrongLetter (omega arith) refl each.0)
-      (field_cut line n whole (missing size) 1 10 (mark_bounds mark) (omega arith) refl (missing_field size 0 (omega arith)) each.1.0)
-      (field_cut line n whole (missing size) 10 19 tour_bounds (omega arith) refl (missing_field size 1 (omega arith)) each.1.1.0)
-      (field_cut line n whole (missing size) 19 28 degree_bounds (omega arith) refl (missing_field size 2 (omega arith)) each.1.1.1.0)
-      (field_cut line n whole (missing size) 28 37 lanes_bounds (omega arith) refl (missing_field size 3 (omega arith)) each.1.1.1.1.0)
-      (field_cut line n whole (missing size) 37 46 (number_bounds order) (omega arith) refl (missing_field size 4 (omega arith)) each.1.1.1.1.1.0)
+      (field_cut line n whole (missing size) 1 10 (mark_bounds mark) (omega arith) refl (λ k from below. grind (arith, nat_tests)) each.1.0)
+      (field_cut line n whole (missing size) 10 19 tour_bounds (omega arith) refl (λ k from below. grind (arith, nat_tests)) each.1.1.0)
+      (field_cut line n whole (missing size) 19 28 degree_bounds (omega arith) refl (λ k from below. grind (arith, nat_tests)) each.1.1.1.0)
+      (field_cut line n whole (missing size) 28 37 lanes_bounds (omega arith) refl (λ k from below. grind (arith, nat_tests)) each.1.1.1.1.0)
+      (field_cut line n whole (missing size) 37 46 (number_bounds order) (omega arith) refl (λ k from below. grind (arith, nat_tests)) each.1.1.1.1.1.0)
 
   -- the cut is behind the numbers, so they are read as in the whole text
   head_same : 46 ≤ n → kiosk_head (take n whole) ≡ kiosk_head whole
   head_same l =
-      let own : number_at (take n whole) 2 ≡ number_at whole 2 = number_cut n whole 2 (omega arith) in
-      let tour : number_at (take n whole) 11 ≡ number_at whole 11 = number_cut n whole 11 (omega arith) in
-      let degree : number_at (take n whole) 20 ≡ number_at whole 20 = number_cut n whole 20 (omega arith) in
-      let lanes : number_at (take n whole) 29 ≡ number_at whole 29 = number_cut n whole 29 (omega arith) in
-      let number : number_at (take n whole) 38 ≡ number_at whole 38 = number_cut n whole 38 (omega arith) in
-      simp (own, tour, degree, lanes, number)
+      simp (number_cut n whole 2 (omega arith), number_cut n whole 11 (omega arith), number_cut n whole 20 (omega arith), number_cut n whole 29 (omega arith), number_cut n whole 38 (omega arith))
 
   length_most : length whole ≤ 48 + 8 * size
   length_most =
@@ -71,8 +51,8 @@ module _ (line mark order n : ℕ) (whole : List ℕ) (none : kiosk_fault line m
       (λ at_47.
       subst (λ s. Passes ⊥ (AtCut line n (missing size)) (first (codes_fault line text 47 s order ∷ byte_fault line text (47 + 8 * s) 10 NoLineFeed ∷ end_fault line text (48 + 8 * s) ∷ [])))
       (sym (ap share_size (head_same at_46)))
-      (passes (codes_fault line text 47 size order) _ (codes_cut line n whole (missing size) 47 size order (missing_code size) each.1.1.0 at_47)
-      (λ at_feed. passes (byte_fault line text (47 + 8 * size) 10 NoLineFeed) _ (byte_cut line n whole (missing size) (47 + 8 * size) 10 NoLineFeed (omega arith) (missing_feed size) each.1.1.1.0 at_feed)
+      (passes (codes_fault line text 47 size order) _ (codes_cut line n whole (missing size) 47 size order (λ k from below. grind (arith, nat_tests)) each.1.1.0 at_47)
+      (λ at_feed. passes (byte_fault line text (47 + 8 * size) 10 NoLineFeed) _ (byte_cut line n whole (missing size) (47 + 8 * size) 10 NoLineFeed (omega arith) (grind (arith, nat_tests)) each.1.1.1.0 at_feed)
       (λ at_end. absurd (omega (arith, length_most)))))))
 
 -- a fault must be found, and it is this one

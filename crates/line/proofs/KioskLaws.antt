@@ -9,14 +9,9 @@ use Rattle.line.specs.declared.kiosk_line.KioskHead.{KioskHead}
 use Rattle.line.specs.Digits.{eight}
 use Rattle.line.specs.Steps.{byte_fault, field_fault, codes_fault, end_fault}
 use Rattle.line.specs.KioskLine.{share_size, kiosk_front, kiosk_line, kiosk_head, head_fault, kiosk_fault, line_length}
-use Rattle.line.proofs.Checks.{first_all, all_none}
+use Rattle.line.proofs.Checks.{all_none}
 use Rattle.line.proofs.Numbers.{length_eight}
 use Rattle.line.proofs.Written.{Front, length_codes}
-
--- the bytes before the codes, as they are written one field after another
-pub front_is : (head : KioskHead) → (((((((107 ∷ []) ++ (9 ∷ eight head.mark)) ++ (9 ∷ eight head.tour)) ++ (9 ∷ eight head.degree)) ++ (9 ∷ eight head.lanes)) ++ (9 ∷ eight head.number.0)) ++ (9 ∷ [])) ≡ kiosk_front head
-unfolding kiosk_front
-front_is head = simp append_assoc
 
 -- the bytes before the codes, with what stands behind them
 pub front_then : (head : KioskHead) (rest : List ℕ) → kiosk_front head ++ rest ≡ 107 ∷ 9 ∷ (eight head.mark ++ (9 ∷ (eight head.tour ++ (9 ∷ (eight head.degree ++ (9 ∷ (eight head.lanes ++ (9 ∷ (eight head.number.0 ++ (9 ∷ rest))))))))))
@@ -84,10 +79,6 @@ module _ (line mark order : ℕ) (text : List ℕ) where
   abbrev pub head_checks : List (Option LineFault)
   head_checks = letter_check ∷ mark_check ∷ tour_check ∷ degree_check ∷ lanes_check ∷ number_check ∷ []
 
-  pub head_passed : AllByRecursion (λ c. c ≡ None) head_checks → head_fault line mark order text ≡ None
-  unfolding head_fault
-  head_passed none = first_all head_checks none
-
   pub head_each : head_fault line mark order text ≡ None → AllByRecursion (λ c. c ≡ None) head_checks
   unfolding head_fault
   head_each e = all_none head_checks e
@@ -106,10 +97,6 @@ module _ (line mark order : ℕ) (text : List ℕ) where
 
   abbrev pub line_checks : List (Option LineFault)
   line_checks = head_fault line mark order text ∷ tab_check ∷ codes_check ∷ line_feed_check ∷ end_check ∷ []
-
-  pub line_passed : AllByRecursion (λ c. c ≡ None) line_checks → kiosk_fault line mark order text ≡ None
-  unfolding kiosk_fault
-  line_passed none = first_all line_checks none
 
   pub line_each : kiosk_fault line mark order text ≡ None → AllByRecursion (λ c. c ≡ None) line_checks
   unfolding kiosk_fault

@@ -1,12 +1,12 @@
 -- Where the fault of a kiosk line lies: in its text or at its end.
-use Rattle.std.proofs.Common.{◌≡◌, ℕ, ◌+◌, ◌*◌, ◌≤◌, List, length, IfErr, Some, None, Ok, Err, Option, Result, subst, arith}
+use Rattle.std.proofs.Common.{◌≡◌, ℕ, ◌+◌, ◌*◌, ◌≤◌, List, length, IfErr, Ok, Err, Result, arith}
+use Rattle.std.proofs.lemmas.Option.{MatchOption-at_some}
 use Rattle.line.specs.declared.refusal.Cause.TheVariants.{WrongLetter, NoTab, NoLineFeed}
 use Rattle.line.specs.declared.refusal.LineFault.{LineFault}
 use Rattle.line.specs.declared.kiosk_line.KioskLine.{KioskLine}
-use Rattle.line.specs.Faults.{unless}
 use Rattle.line.specs.Steps.{Found}
-use Rattle.line.specs.KioskLine.{share_size, kiosk_head, kiosk_codes, head_fault, kiosk_fault, Read, reading, seen}
-use Rattle.line.proofs.Checks.{Passes, passes, passes_last}
+use Rattle.line.specs.KioskLine.{share_size, kiosk_head, head_fault, kiosk_fault, reading, seen}
+use Rattle.line.proofs.Checks.{the_fault, Passes, passes, passes_last}
 use Rattle.line.proofs.KioskLaws.{mark_bounds, tour_bounds, degree_bounds, lanes_bounds, number_bounds, letter_check, mark_check, tour_check, degree_check, lanes_check, number_check, tab_check, codes_check, line_feed_check, end_check}
 use Rattle.line.proofs.Places.{byte_place, end_place, field_place, codes_place}
 
@@ -51,10 +51,6 @@ module _ (line mark order : ℕ) (text : List ℕ) where
       (λ at_end. passes_last (end_check line mark order text) (end_place line text (48 + 8 * size) (omega arith))))))
 
 -- what holds of the fault holds of what the reader answers
-found_by : {P : Type 0} {R : LineFault → Type 0} (r : Result KioskLine LineFault) (o : Option LineFault) (x : Read) → seen r ≡ unless o x → Passes P R o → IfErr r R
-found_by (Ok l) o x e passed = tt
-found_by (Err f) None x e passed = absurd cc
-found_by {R = R} (Err f) (Some g) x e passed = let same : g ≡ f = cc in subst R same passed.by
-
 pub found : (line mark order : ℕ) (text : List ℕ) (r : Result KioskLine LineFault) → seen r ≡ reading line mark order text → IfErr r (Found line text)
-found line mark order text r e = found_by r (kiosk_fault line mark order text) (record { head = kiosk_head text; place = 47; part = kiosk_codes text }) e (line_place line mark order text)
+found line mark order text (Ok l) e = tt
+found line mark order text (Err f) e = MatchOption-at_some _ (Found line text) f (the_fault _ _ _ e) (line_place line mark order text).by

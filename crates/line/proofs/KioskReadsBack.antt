@@ -5,12 +5,13 @@ use Rattle.std.proofs.ByRecursion.{All-weaker}
 use Rattle.std.proofs.lemmas.List.{take_at}
 use Rattle.line.specs.declared.refusal.Cause.TheVariants.{WrongLetter, NoTab, NoLineFeed}
 use Rattle.line.specs.declared.kiosk_line.KioskHead.{KioskHead}
-use Rattle.line.specs.Digits.{eight, number_at}
+use Rattle.line.specs.Digits.{eight}
 use Rattle.line.specs.Steps.{codes_fault, byte_fault, end_fault}
 use Rattle.line.specs.KioskLine.{share_size, InForm, kiosk_line, kiosk_head, head_fault, kiosk_fault, ReadsBack}
+use Rattle.line.proofs.Checks.{first_all}
 use Rattle.line.proofs.Written.{length_codes}
 use Rattle.line.proofs.Standing.{InRange, behind, byte_read, end_read, field_behind, field_number, field_read, codes_behind, codes_read, codes_in_joined}
-use Rattle.line.proofs.KioskLaws.{front_then, mark_bounds, tour_bounds, degree_bounds, lanes_bounds, number_bounds, head_passed, line_passed}
+use Rattle.line.proofs.KioskLaws.{front_then, mark_bounds, tour_bounds, degree_bounds, lanes_bounds, number_bounds, head_checks, line_checks}
 
 module _ (line mark order : ℕ) (head : KioskHead) (codes : List ℕ) (mark_fits : head.mark < 2 ^ 32) (order_fits : order ≤ 2 ^ 32) (form : InForm mark order head codes) where
   text : List ℕ
@@ -86,19 +87,21 @@ module _ (line mark order : ℕ) (head : KioskHead) (codes : List ℕ) (mark_fit
 
   head_is : kiosk_head text ≡ head
   head_is =
-      let own : number_at text 2 ≡ head.mark = field_number 1 head.mark text after_mark at_1 mark_fits in
-      let tour : number_at text 11 ≡ head.tour = field_number 10 head.tour text after_tour at_10 form.tour_fits in
-      let degree : number_at text 20 ≡ head.degree = field_number 19 head.degree text after_degree at_19 degree_range.fits in
-      let lanes : number_at text 29 ≡ head.lanes = field_number 28 head.lanes text after_lanes at_28 lanes_range.fits in
-      let number : number_at text 38 ≡ head.number.0 = field_number 37 head.number.0 text after_number at_37 number_range.fits in
-      simp (own, tour, degree, lanes, number)
+      simp (
+        field_number 1 head.mark text after_mark at_1 mark_fits,
+        field_number 10 head.tour text after_tour at_10 form.tour_fits,
+        field_number 19 head.degree text after_degree at_19 degree_range.fits,
+        field_number 28 head.lanes text after_lanes at_28 lanes_range.fits,
+        field_number 37 head.number.0 text after_number at_37 number_range.fits,
+      )
 
   size_is : share_size (kiosk_head text) ≡ length codes
   size_is = ap share_size head_is ∙ sym form.count
 
   head_read : head_fault line mark order text ≡ None
+  unfolding head_fault
   head_read =
-      head_passed line mark order text (
+      first_all (head_checks line mark order text) (
         byte_read 0 text after_letter line 107 WrongLetter at_0,
         (
           field_read 1 head.mark text after_mark at_1 line (mark_bounds mark) mark_range,
@@ -127,8 +130,9 @@ module _ (line mark order : ℕ) (head : KioskHead) (codes : List ℕ) (mark_fit
       ap (λ p. drop p text) (sym next) ∙ behind (47 + 8 * length codes) text [] 1 (10 ∷ []) refl at_feed
 
   line_read : kiosk_fault line mark order text ≡ None
+  unfolding kiosk_fault
   line_read =
-      line_passed line mark order text (
+      first_all (line_checks line mark order text) (
         head_read,
         (
           byte_read 46 text (flat_map eight codes ++ (10 ∷ [])) line 9 NoTab at_46,

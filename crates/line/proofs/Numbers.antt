@@ -1,8 +1,9 @@
 -- Numbers in eight digits: when the digit reader finds a fault, what stands in the text where it finds none, and back.
 use Rattle.std.proofs.Common.{◌≡◌, ℕ, ◌+◌, ◌^◌, ◌<◌, List, ◌++◌, length, get_or, take, drop, Some, None, sym, ap, ◌∙◌, subst, inl, inr}
 use Rattle.std.proofs.lemmas.List.{get_or-drop, get_or_append_left, take-append-drop, take_at, drop-drop}
+use Rattle.std.proofs.lemmas.Option.{none-some}
 use Rattle.line.specs.Digits.{digit_value, eight, value_after, number_at, digit_fault, digits_fault}
-use Rattle.line.proofs.Checks.{some≢none, either, counted_none, counted_some, counted_each}
+use Rattle.line.proofs.Checks.{either, counted_none, counted_some, counted_each}
 use Rattle.line.proofs.HexDigits.{Hexes, last_digits, eight_is, length_last_digits, hexes_last_digits, value_last_digits, last_digits_value, value_small}
 
 pub digit_fault_none : (line place d : ℕ) (text : List ℕ) → digit_value (get_or text place 0) ≡ Some d → digit_fault line text place ≡ None
@@ -39,8 +40,8 @@ hexes_from line place text e k l =
       | inl found ↦ (found.0, ap digit_value (get_or-drop place text k 0) ∙ found.1)
       | inr no_digit ↦
           absurd
-          (some≢none (record { line = line; place = place + k })
-          (sym (digit_fault_some line (place + k) text no_digit) ∙ counted_each (λ i. digit_fault line text (place + i)) 8 e k l))
+          (none-some (record { line = line; place = place + k })
+          (sym (counted_each (λ i. digit_fault line text (place + i)) 8 e k l) ∙ digit_fault_some line (place + k) text no_digit))
     ]
 
 pub number_at_small : (line place : ℕ) (text : List ℕ) → digits_fault line text place ≡ None → number_at text place < 2 ^ 32

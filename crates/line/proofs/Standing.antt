@@ -1,12 +1,13 @@
 -- What stands in a text where a check finds no fault, and back: where it stands, the check finds none.
 -- What stands from a place on is said by `drop`, so that the steps of a line join from left to right.
-use Rattle.std.proofs.Common.{◌≡◌, ℕ, zero, suc, ◌+◌, ◌*◌, ◌/◌, ◌^◌, ◌<◌, ◌≤◌, List, [], ◌∷◌, ◌++◌, map, length, get_or, drop, Some, None, sym, refl, ap, ◌∙◌, subst, inl, inr, arith}
+use Rattle.std.proofs.Common.{◌≡◌, ℕ, zero, suc, ◌+◌, ◌*◌, ◌/◌, ◌^◌, ◌<◌, ◌≤◌, List, [], ◌∷◌, ◌++◌, map, length, get_or, drop, Some, None, sym, refl, ap, ◌∙◌, subst, inl, inr, add-one, arith}
 use Rattle.std.specs.List.{range_with_len, flat_map, AllByRecursion}
 use Rattle.std.specs.Result.{result_ok}
 use Rattle.std.proofs.lemmas.List.FromFn.{map-range_with_len_more, fill_by_all}
 use Rattle.std.proofs.ByRecursion.{All-push, All-get_or}
 use Rattle.std.proofs.lemmas.List.{append_assoc, append-nil, length-drop, get_or-drop, get_or_past, drop_more, drop_all, drop_at, drop-drop, flat_map_more}
-use Rattle.std.proofs.lemmas.Bool.{cases_lt}
+use Rattle.std.proofs.lemmas.Option.{none-some}
+use Rattle.std.proofs.lemmas.Bool.{cases_lt, cond_below}
 use Rattle.std.proofs.lemmas.Bool.Decides.{nat_tests}
 use Rattle.line.specs.declared.refusal.Cause.{Cause}
 use Rattle.line.specs.declared.refusal.Cause.TheVariants.{NoTab}
@@ -14,9 +15,9 @@ use Rattle.line.specs.declared.steps.Bounds.{Bounds}
 use Rattle.line.specs.Faults.{unless}
 use Rattle.line.specs.Digits.{eight, number_at, digits_fault}
 use Rattle.line.specs.Steps.{byte_fault, end_fault, bounds_fault, value_fault, field_fault, codes_fault, codes_in, Readable}
-use Rattle.line.proofs.Checks.{some≢none, either, all_none}
+use Rattle.line.proofs.Checks.{either, all_none}
 use Rattle.line.proofs.Numbers.{number_at_small, digits_stand, digits_read, number_read, length_eight}
-use Rattle.line.proofs.StepLaws.{bounds_fault_none, value_fault_digits, value_fault_bounds, field_fault_value, code_bounds, code_fault, codes_fault_none, codes_fault_each, code_at_within}
+use Rattle.line.proofs.StepLaws.{bounds_fault_none, value_fault_digits, value_fault_bounds, field_fault_value, code_bounds, code_fault, codes_fault_none, codes_fault_each}
 use Rattle.line.proofs.Written.{length_codes}
 
 -- One byte
@@ -78,7 +79,7 @@ bounds_from line place n bounds e = (grind (arith, nat_tests), grind (arith, nat
 pub value_stands : (line place : ℕ) (text : List ℕ) (bounds : Bounds) → value_fault line text place bounds ≡ None → Value place (number_at text place) text bounds
 value_stands line place text bounds e =
     elim (either (digits_fault line text place)) [
-      | inl found ↦ absurd (some≢none _ (sym (value_fault_digits line place text bounds found.0 found.1) ∙ e))
+      | inl found ↦ absurd (none-some _ (sym e ∙ value_fault_digits line place text bounds found.0 found.1))
       | inr none ↦
           let range = bounds_from line place (number_at text place) bounds (sym (value_fault_bounds line place text bounds none) ∙ e) in
           record {
@@ -148,8 +149,7 @@ codes_stand_by line place order text (suc n) each =
     let before = codes_stand_by line place order text n (λ k l. each k (omega arith)) in
     let f : ℕ → ℕ = λ i. number_at text (place + 8 * i) in
     let value = value_stands line (place + 8 * n) text (code_bounds order) (each n (omega arith)) in
-    let next : suc n ≡ n + 1 = omega arith in
-    let more : codes_from text place (suc n) ≡ codes_from text place n ++ (f n ∷ []) = ap (λ m. map f (range_with_len 0 m)) next ∙ map-range_with_len_more f 0 n n (omega arith) in
+    let more : codes_from text place (suc n) ≡ codes_from text place n ++ (f n ∷ []) = rw (add-one n) at (map-range_with_len_more f 0 n n (omega arith)) in
     let end : place + 8 * n + 8 ≡ place + 8 * suc n = omega arith in
     record {
       stand =
@@ -213,6 +213,6 @@ codes_readable codes fit k l =
     let inside : k < length codes = subst (λ cs. k < length cs) same l in
     let stands : drop (8 * k) part ≡ eight (get_or codes k 0) ++ (flat_map eight (drop (suc k) codes) ++ []) = ap (drop (8 * k)) (sym (append-nil part)) ∙ code_begins codes [] k inside in
     let rest = flat_map eight (drop (suc k) codes) ++ [] in
-    sym (code_at_within part k (omega (arith, length_codes codes)))
+    sym (cond_below k (length part / 8) _ None (omega (arith, length_codes codes)))
     ∙ ap (λ fault. result_ok (unless fault (number_at part (8 * k)))) (digits_read (8 * k) (get_or codes k 0) part rest stands 1)
     ∙ ap Some (number_read (8 * k) (get_or codes k 0) part rest stands (All-get_or (λ c. c < 2 ^ 32) codes k 0 inside fit) ∙ ap (λ cs. get_or cs k 0) (sym same))

@@ -1,15 +1,13 @@
 -- The checks that a line is made of: when each finds its fault.
-use Rattle.std.proofs.Common.{◌≡◌, ℕ, ◌+◌, ◌*◌, ◌/◌, ◌<◌, ◌≤◌, List, length, Some, None, Option, arith}
-use Rattle.std.specs.Result.{result_ok}
-use Rattle.std.proofs.lemmas.Bool.{cond_below}
+use Rattle.std.proofs.Common.{◌≡◌, ℕ, ◌+◌, ◌*◌, ◌<◌, ◌≤◌, List, Some, None, Option, arith}
 use Rattle.std.proofs.lemmas.Bool.Decides.{nat_tests}
 use Rattle.line.specs.declared.refusal.Cause.TheVariants.{NoTab, OutOfRange}
 use Rattle.line.specs.declared.refusal.DigitFault.{DigitFault}
 use Rattle.line.specs.declared.refusal.LineFault.{LineFault}
 use Rattle.line.specs.declared.steps.Bounds.{Bounds}
-use Rattle.line.specs.Faults.{no_digit, unless}
+use Rattle.line.specs.Faults.{no_digit}
 use Rattle.line.specs.Digits.{number_at, digits_fault}
-use Rattle.line.specs.Steps.{byte_fault, bounds_fault, value_fault, field_fault, codes_fault, code_at}
+use Rattle.line.specs.Steps.{byte_fault, bounds_fault, value_fault, field_fault, codes_fault}
 use Rattle.line.proofs.Checks.{first_one, counted_none, counted_some, counted_each}
 
 pub bounds_fault_none : (line place n : ℕ) (bounds : Bounds) → bounds.least ≤ n → n < bounds.below → bounds_fault line place bounds n ≡ None
@@ -49,6 +47,3 @@ module _ (line place count order : ℕ) (text : List ℕ) where
   pub codes_fault_each : codes_fault line text place count order ≡ None → (k : ℕ) → k < count → code_fault line place order text k ≡ None
   unfolding codes_fault
   codes_fault_each = counted_each (code_fault line place order text) count
-
-pub code_at_within : (part : List ℕ) (index : ℕ) → index < length part / 8 → result_ok (unless (digits_fault 1 part (8 * index)) (number_at part (8 * index))) ≡ code_at part index
-code_at_within part index l = cond_below index (length part / 8) (result_ok (unless (digits_fault 1 part (8 * index)) (number_at part (8 * index)))) None l

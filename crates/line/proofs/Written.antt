@@ -1,8 +1,9 @@
 -- A buffer that is written from its front on: what is written so far, and behind it what the buffer held.
-use Rattle.std.proofs.Common.{◌≡◌, ℕ, suc, ◌+◌, ◌-◌, ◌*◌, ◌<◌, ◌≤◌, List, [], ◌∷◌, ◌++◌, length, take, drop, set, sym, refl, ap, ◌∙◌, arith}
+use Rattle.std.proofs.Common.{◌≡◌, ℕ, suc, ◌+◌, ◌-◌, ◌*◌, ◌<◌, ◌≤◌, List, [], ◌∷◌, ◌++◌, length, take, drop, set, sym, refl, ap, ◌∙◌, arith, add-one}
 use borrow.Rule.Slice.PartMut.{put_mid}
 use Rattle.std.specs.List.{flat_map}
-use Rattle.std.proofs.lemmas.List.{append-nil, append_assoc, length-append, length-drop, take_at, take_rest, drop_at, drop_all, drop-drop, set_split}
+use Rattle.std.proofs.lemmas.List.{append-nil, append_assoc, length-append, length-drop, take_at, take_rest, drop_all, drop-drop, set_split}
+use Rattle.std.proofs.lemmas.Slice.{drop-append-drop}
 use Rattle.line.specs.Digits.{eight}
 use Rattle.line.proofs.Numbers.{length_eight}
 
@@ -16,10 +17,7 @@ pub front_more : (n k : ℕ) (bytes more was buffer after : List ℕ) → Front 
 front_more n k bytes more was buffer after front long e = record {
   count = length-append bytes more ∙ omega (arith, front.count);
   holds =
-      let kept : drop (n + k) buffer ≡ drop (n + k) was =
-      sym (drop-drop k n buffer)
-      ∙ ap (drop k) (ap (drop n) front.holds ∙ drop_at bytes (drop n was) n front.count)
-      ∙ drop-drop k n was in
+      let kept : drop (n + k) buffer ≡ drop (n + k) was = ap (drop (n + k)) front.holds ∙ drop-append-drop n was bytes (n + k) (omega arith) front.count in
       let before : take n buffer ≡ bytes = ap (take n) front.holds ∙ take_at bytes (drop n was) n front.count in
       e
       ∙ ap (λ bs. bs ++ (more ++ drop (n + k) buffer)) before
@@ -35,11 +33,8 @@ pub front_none : (was : List ℕ) → Front [] 0 was was
 front_none was = record { count = refl; holds = refl }
 
 -- one byte is written
-pub set_at : (n b : ℕ) (buffer : List ℕ) → n < length buffer → set buffer n b ≡ take n buffer ++ (b ∷ drop (n + 1) buffer)
-set_at n b buffer l = let next : suc n ≡ n + 1 = omega arith in set_split buffer n b l ∙ ap (λ m. take n buffer ++ (b ∷ drop m buffer)) next
-
 pub front_byte : (b : ℕ) {n : ℕ} {bytes was buffer : List ℕ} → Front bytes n was buffer → n < length buffer → Front (bytes ++ (b ∷ [])) (n + 1) was (set buffer n b)
-front_byte b {n} {bytes} {was} {buffer} front l = front_more n 1 bytes (b ∷ []) was buffer (set buffer n b) front refl (set_at n b buffer l)
+front_byte b {n} {bytes} {was} {buffer} front l = front_more n 1 bytes (b ∷ []) was buffer (set buffer n b) front refl (rw add-one (set_split buffer n b l))
 
 -- a tab and a number are written
 pub front_field : (number : ℕ) {n : ℕ} {bytes was buffer after : List ℕ} → Front bytes n was buffer → after ≡ take n buffer ++ (9 ∷ (eight number ++ drop (n + 9) buffer)) → Front (bytes ++ (9 ∷ eight number)) (n + 9) was after

@@ -22,6 +22,7 @@ impl CodeText<'_> {
         if index >= self.text.len() / 8 {
             return None;
         }
+        // The line's number is of no account, as the fault is dropped.
         let part = LineText {
             line: 1,
             bytes: self.text,
@@ -35,7 +36,7 @@ pub(crate) fn write_codes(codes: &[u32], buffer: &mut [u8])
     requires { 8 * length codes.now ≤ length buffer.old }
     ensures { buffer.new ≡ flat_map eight codes.now ++ drop (8 * length codes.now) buffer.old }
 {
-    // By index, since a proof learns nothing of what is written through `chunks_exact_mut`.
+    // By an index: `chunks_exact_mut(8).zip(codes)` was tried, and the proof did not close, as nothing is known of what is written through it.
     for (i, code) in codes.iter().enumerate() {
         buffer[8 * i..8 * i + 8].copy_from_slice(&hex(*code));
     }

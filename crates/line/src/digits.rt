@@ -31,6 +31,7 @@ pub type Digits = [u8; 8];
 pub fn hex(number: u32) -> Digits
     ensures { result ≡ eight number }
 {
+    // By `as`: `try_from` would branch on a digit.
     array::from_fn(|i| digit_byte(((number >> (28 - 4 * i)) % 16) as u8))
 }
 

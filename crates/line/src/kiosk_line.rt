@@ -9,7 +9,7 @@ use crate::codes::{CodeText, write_codes};
 use crate::digits::write_field;
 use crate::number::KioskNumber;
 use crate::refusal::{Cause, LineFault, Refusal};
-use crate::steps::{Bounds, DEGREE, FROM_ONE, LANES, LineText};
+use crate::steps::{Bounds, DEGREE, FROM_ONE, LANES, LETTER_K, LINE_FEED, LineText, TAB};
 
 // The numbers by which a line's reader knows a field.
 #[derive(Clone, Copy, PartialEq, Eq, Debug)]
@@ -43,7 +43,7 @@ const HEAD: usize = 47;
 fn head(text: &LineText<'_>, over: FieldNumbers) -> Result<KioskHead, LineFault>
     ensures { result ≡ unless (head_fault text.now.line over.mark over.order text.now.bytes.now) (kiosk_head text.now.bytes.now) }
 {
-    text.byte(0, b'k', Cause::WrongLetter)?;
+    text.byte(0, LETTER_K)?;
     let own = u64::from(over.mark);
     let own_mark = Bounds {
         least: own,
@@ -68,16 +68,16 @@ fn head(text: &LineText<'_>, over: FieldNumbers) -> Result<KioskHead, LineFault>
     })
 }
 
-// Reads a whole line.
+// Reads a whole line. It stands apart from `read` because the three theorems there follow from this answer alone.
 fn whole_line<'a>(text: &LineText<'a>, over: FieldNumbers) -> Result<KioskLine<'a>, LineFault>
     ensures { seen result ≡ reading text.now.line over.mark over.order text.now.bytes.now }
 {
     let head = head(text, over)?;
     let size = head.share_size();
     let end_of_codes = HEAD + 8 * size;
-    text.byte(HEAD - 1, b'\t', Cause::NoTab)?;
+    text.byte(HEAD - 1, TAB)?;
     text.codes(HEAD, size, over.order)?;
-    text.byte(end_of_codes, b'\n', Cause::NoLineFeed)?;
+    text.byte(end_of_codes, LINE_FEED)?;
     text.end(end_of_codes + 1)?;
     Ok(KioskLine {
         head,

@@ -19,7 +19,7 @@ pub enum Cause {
 }
 
 impl Cause {
-    // The number by which a cause is known, from 1 to 7.
+    // The number by which a cause is known, from 1 to 7. People and pages name it so; the code goes by the cause itself.
     pub fn number(self) -> u32
         ensures { result ≡ cause_number self }
     {
@@ -128,7 +128,7 @@ pub enum Refusal {
 }
 
 impl Refusal {
-    // The number by which a refusal is known, from 1 to 17.
+    // The number by which a refusal is known, from 1 to 17. People and pages name it so; the code goes by the refusal itself.
     pub fn number(self) -> u32
         ensures { result ≡ refusal_number self }
     {

@@ -34,6 +34,29 @@ pub(crate) const LANES: Bounds = Bounds {
     ..FROM_ONE
 };
 
+// A byte that every line has at some place, and the cause to name where it is missing.
+#[derive(Clone, Copy)]
+pub(crate) struct FixedByte {
+    pub byte: u8,
+    pub cause: Cause,
+    ghost set: { 0 < byte },
+}
+
+pub(crate) const LETTER_K: FixedByte = FixedByte {
+    byte: b'k',
+    cause: Cause::WrongLetter,
+};
+
+pub(crate) const TAB: FixedByte = FixedByte {
+    byte: b'\t',
+    cause: Cause::NoTab,
+};
+
+pub(crate) const LINE_FEED: FixedByte = FixedByte {
+    byte: b'\n',
+    cause: Cause::NoLineFeed,
+};
+
 // The bytes that are read as a line, and the number of that line, which each fault names.
 #[derive(Clone, Copy)]
 pub(crate) struct LineText<'a> {
@@ -41,6 +64,7 @@ pub(crate) struct LineText<'a> {
     pub bytes: &'a [u8],
 }
 
+// A place is a plain `usize`: each step asks that its own end fits one, which is another bound for each.
 impl LineText<'_> {
     // The fault at a place.
     fn fault(&self, place: usize, cause: Cause) -> LineFault
@@ -53,15 +77,14 @@ impl LineText<'_> {
         }
     }
 
-    // One byte, which is not 0.
-    pub(crate) fn byte(&self, place: usize, byte: u8, cause: Cause) -> Result<(), LineFault>
-        requires { 0 < byte }
-        ensures { result ≡ unless (byte_fault self.now.line self.now.bytes.now place byte cause) tt }
+    // One byte.
+    pub(crate) fn byte(&self, place: usize, wanted: FixedByte) -> Result<(), LineFault>
+        ensures { result ≡ unless (byte_fault self.now.line self.now.bytes.now place wanted.byte wanted.cause) tt }
     {
-        if self.bytes.get(place) == Some(&byte) {
+        if self.bytes.get(place) == Some(&wanted.byte) {
             Ok(())
         } else {
-            Err(self.fault(place, cause))
+            Err(self.fault(place, wanted.cause))
         }
     }
 
@@ -82,7 +105,7 @@ impl LineText<'_> {
         ensures { result ≡ unless (digits_fault self.now.line self.now.bytes.now place) (number_at self.now.bytes.now place) }
     {
         let mut number = 0;
-        // Place by place, since a fault names the first that has no digit.
+        // By its place, since a fault names the first that has no digit, be it beyond the text's end.
         for at in place..place + 8 {
             let Some(digit) = self.bytes.get(at).and_then(|byte| hex_digit(*byte)) else {
                 return Err(DigitFault {
@@ -102,7 +125,7 @@ impl LineText<'_> {
     {
         let number = self.number(place)?;
         let wide = u64::from(number);
-        if bounds.least <= wide && wide < bounds.below {
+        if (bounds.least..bounds.below).contains(&wide) {
             Ok(number)
         } else {
             Err(self.fault(place, bounds.cause))
@@ -114,7 +137,7 @@ impl LineText<'_> {
         requires { place + 9 < 2 ^ 64 }
         ensures { result ≡ unless (field_fault self.now.line self.now.bytes.now place bounds) (number_at self.now.bytes.now (place + 1)) }
     {
-        self.byte(place, b'\t', Cause::NoTab)?;
+        self.byte(place, TAB)?;
         self.value(place + 1, bounds)
     }
 
@@ -126,7 +149,7 @@ impl LineText<'_> {
         let bounds = Bounds {
             least: 0,
             below: order,
-            cause: Cause::OutOfRange,
+            ..FROM_ONE
         };
         // Place by place, as a fault names one.
         for at in (place..place + 8 * count).step_by(8) {

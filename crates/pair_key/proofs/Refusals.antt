@@ -29,18 +29,15 @@ module _ (A : Arith) (text : List ℕ) (others : List KioskNumber) where
   unfolding first_refusal
   line_refused cause e = first_at (line_refusal ∷ map refusal_of others) 0 cause tt e
 
-  one_refused : (i : ℕ) (cause : Refusal) → line_refusal ≡ None → Passed (take i others) → i < length others → refusal A text (get_or others i (record { 0 = 0 })).0 16 ≡ Some cause → first_refusal A text others ≡ Some cause
-  unfolding first_refusal
-  one_refused i cause none passed inside e =
-      first_at (line_refusal ∷ map refusal_of others) (suc i) cause
-      (none, subst (AllByRecursion (λ o. o ≡ None)) (sym (take-map refusal_of i others)) (All-map (λ o. o ≡ None) refusal_of (take i others) passed))
-      (get_or-map refusal_of others i (record { 0 = 0 }) None inside ∙ e)
-
   pub none_refused : line_refusal ≡ None → Passed others → first_refusal A text others ≡ None
   unfolding first_refusal
   none_refused none passed = first_all (line_refusal ∷ map refusal_of others) (none, All-map (λ o. o ≡ None) refusal_of others passed)
 
   -- where one derivation fails, so does the whole
   pub one_failed : (i : ℕ) (was after : List ℕ) (failure : Failure) → line_refusal ≡ None → Passed (take i others) → i < length others → Appended A text (get_or others i (record { 0 = 0 })) was after (Err failure) → Reported A text others (Err failure)
-  one_failed i was after (Refused cause) none passed inside e = one_refused i cause none passed inside e
+  unfolding first_refusal
+  one_failed i was after (Refused cause) none passed inside e =
+      first_at (line_refusal ∷ map refusal_of others) (suc i) cause
+      (none, subst (AllByRecursion (λ o. o ≡ None)) (sym (take-map refusal_of i others)) (All-map (λ o. o ≡ None) refusal_of (take i others) passed))
+      (get_or-map refusal_of others i (record { 0 = 0 }) None inside ∙ e)
   one_failed i was after Memory none passed inside e = tt

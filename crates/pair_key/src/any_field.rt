@@ -8,7 +8,7 @@ use field::byte::Byte;
 use field::doubled::Doubled;
 use field::interface::Field;
 use field::residue::Residue;
-use kiosk::numbers;
+use kiosk::field_numbers;
 use line::kiosk_line::KioskLine;
 use line::number::KioskNumber;
 use line::refusal::Cause;
@@ -18,7 +18,7 @@ use std::alloc::Global;
 fn has_another_mark<F: Field>(text: &[u8]) -> bool
     ensures { result ≡ of_another_field F.Field.arith text.now }
 {
-    let line = KioskLine::read(1, numbers::<F>(), text);
+    let line = KioskLine::read(1, field_numbers::<F>(), text);
     line.is_err_and(|fault| fault.cause == Cause::OtherMark)
 }
 
@@ -41,59 +41,53 @@ pub fn report_any(alloc: Global, text: &[u8], others: &[KioskNumber]) -> Result<
 #[cfg(test)]
 mod tests {
     use super::*;
+    use std::process::Abort;
     use std::test::Fail;
 
     // What is printed for the other kiosk 3.
-    fn printed(rt: &HostRuntime, text: &[u8]) -> Result<String, Failure> {
-        report_any(rt.alloc(), text, &[KioskNumber(3)])
+    fn printed(alloc: Global, text: &[u8]) -> Result<String, Failure> {
+        report_any(alloc, text, &[KioskNumber(3)])
+    }
+
+    fn prints(rt: &impl Abort, alloc: Global, text: &[u8], wanted: &str) -> Result<(), Fail> {
+        let lines = printed(alloc, text)?;
+        assert_eq!(rt; lines.as_str(), wanted);
+        Ok(())
     }
 
     #[test]
     fn bytes(rt: HostRuntime) -> Result<(), Fail> {
         let text = b"k\t00000001\t00000007\t00000001\t00000001\t00000002\t0000000500000004\n";
-        let lines = printed(&rt, text)?;
-        assert_eq!(rt; lines.as_str(), "kiosk 2 and kiosk 3 of tour 7: 00000009\n");
-        Ok(())
+        let wanted = "kiosk 2 and kiosk 3 of tour 7: 00000009\n";
+        prints(&rt, rt.alloc(), text, wanted)
     }
 
     #[test]
     fn two_lanes_of_residues(rt: HostRuntime) -> Result<(), Fail> {
         let text =
             b"k\t00000002\tffffffff\t00000001\t00000002\t00000100\t000000130000001d0000010000000100\n";
-        let lines = printed(&rt, text)?;
-        assert_eq!(rt;
-            lines.as_str(),
-            "kiosk 256 and kiosk 3 of tour 4294967295: 0000006a 000000fd\n"
-        );
-        Ok(())
+        let wanted = "kiosk 256 and kiosk 3 of tour 4294967295: 0000006a 000000fd\n";
+        prints(&rt, rt.alloc(), text, wanted)
     }
 
     #[test]
     fn doubled_bytes(rt: HostRuntime) -> Result<(), Fail> {
         let text = b"k\t00000011\t00000009\t00000001\t00000001\t0000ffff\t000012400000e55a\n";
-        let lines = printed(&rt, text)?;
-        assert_eq!(rt;
-            lines.as_str(),
-            "kiosk 65535 and kiosk 3 of tour 9: 000026ae\n"
-        );
-        Ok(())
+        let wanted = "kiosk 65535 and kiosk 3 of tour 9: 000026ae\n";
+        prints(&rt, rt.alloc(), text, wanted)
     }
 
     #[test]
     fn doubled_residues(rt: HostRuntime) -> Result<(), Fail> {
         let text = b"k\t00000012\t00000009\t00000001\t00000001\t00010200\t0000020b0000d5a6\n";
-        let lines = printed(&rt, text)?;
-        assert_eq!(rt;
-            lines.as_str(),
-            "kiosk 66048 and kiosk 3 of tour 9: 00007cf9\n"
-        );
-        Ok(())
+        let wanted = "kiosk 66048 and kiosk 3 of tour 9: 00007cf9\n";
+        prints(&rt, rt.alloc(), text, wanted)
     }
 
     #[test]
     fn a_mark_of_no_field(rt: HostRuntime) -> Result<(), Fail> {
         let text = b"k\t00000003\t00000009\t00000001\t00000001\t00000002\t000000130000001d\n";
-        let Err(Failure::Refused(refusal)) = printed(&rt, text) else {
+        let Err(Failure::Refused(refusal)) = printed(rt.alloc(), text) else {
             return Err(Fail::new("not refused"));
         };
         assert_eq!(rt; refusal.number(), 12);

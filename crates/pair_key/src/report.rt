@@ -9,7 +9,7 @@ ghost use Rattle.pair_key.specs.Report.{key_line, Appended, Reported};
 ghost use Rattle.pair_key.specs.declared.report.Failure.TheVariants.{Refused, Memory};
 
 use field::interface::Field;
-use kiosk::{derive, numbers};
+use kiosk::{derive, field_numbers};
 use line::digits::hex;
 use line::kiosk_line::{KioskHead, KioskLine};
 use line::number::KioskNumber;
@@ -56,7 +56,7 @@ impl From<AllocError> for Failure {
 fn head<F: Field>(text: &[u8]) -> Result<KioskHead, Refusal>
     ensures { result ≡ unless (option_map OutOfForm (kiosk_fault 1 F.Field.arith.mark F.Field.arith.order text.now)) (kiosk_head text.now) }
 {
-    let line = KioskLine::read(1, numbers::<F>(), text)?;
+    let line = KioskLine::read(1, field_numbers::<F>(), text)?;
     Ok(line.head)
 }
 

@@ -1,8 +1,9 @@
 -- The scheme's definitions on lists of codes, carried over to the codes as elements of an abstract field.
-use Rattle.std.proofs.Common.{◌≡◌, ℕ, zero, suc, ◌+◌, ◌*◌, ◌/◌, ◌%◌, ◌<◌, min, max, List, map, length, get_or, sym, ap, ◌∙◌, mul_comm, zero-add, arith}
+use Rattle.std.proofs.Common.{◌≡◌, ℕ, zero, suc, ◌+◌, ◌*◌, ◌/◌, ◌%◌, ◌<◌, min, max, List, map, length, get_or, sym, ap, ◌∙◌, subst, zero-add, arith}
 use native.Mathlib.Nat.{min_comm, max_comm}
 use Rattle.std.specs.List.{range_with_len}
-use Rattle.std.proofs.lemmas.Nat.{mul-add-lt, div-mul-add, mod-mul-add}
+use lib.Arith.{digits_lt}
+use Rattle.std.proofs.lemmas.Nat.{div-mul-add, mod-mul-add}
 use Rattle.std.proofs.lemmas.List.FromFn.{fill_by_all, get_or-map-range_with_len, length-map-range_with_len}
 use Rattle.std.proofs.ByRecursion.{All-from_get_or}
 use Rattle.field.specs.Arith.{Arith, Laws, power}
@@ -29,17 +30,10 @@ counted_at n f i h = get_or-map-range_with_len f 0 n i i 0 h (zero-add i)
 pub counted_apart : (n : ℕ) (f g : ℕ → ℕ) → map f (range_with_len 0 n) ≡ map g (range_with_len 0 n) → (i : ℕ) → i < n → f i ≡ g i
 counted_apart n f g e i h = sym (counted_at n f i h) ∙ ap (λ xs. get_or xs i 0) e ∙ counted_at n g i h
 
--- a place in a table of rows of one width
-pub row_place : (row width rows column : ℕ) → row < rows → column < width → row * width + column < rows * width
-row_place row width rows column h k = omega (arith, mul-add-lt row width column rows h k, mul_comm rows width)
-
 -- a row that has a place has a width
 pub some_width : (rows width n : ℕ) → n < rows * width → 0 < width
 some_width rows zero n h = absurd (omega arith)
 some_width rows (suc width) n h = omega arith
-
-pub lane_some : (t : ℕ) → 0 < lane_size t
-lane_some t = omega arith
 
 -- the place of a(i,j) of a lane in the master
 abbrev pub spot : ℕ → ℕ → ℕ → ℕ → ℕ
@@ -47,7 +41,7 @@ spot t lane i j = lane * lane_size t + place t (min i j) (max i j)
 
 pub spot_within : (t m lane i j : ℕ) → lane < m → i < t + 1 → j < t + 1 → spot t lane i j < master_size t m
 spot_within t m lane i j in_lanes h k =
-    row_place lane (lane_size t) m (place t (min i j) (max i j)) in_lanes (place_in_lane t (min i j) (max i j) (omega arith) (omega arith))
+    digits_lt in_lanes (place_in_lane t (min i j) (max i j) (omega arith) (omega arith))
 
 pub spot_symmetric : (t lane i j : ℕ) → spot t lane i j ≡ spot t lane j i
 spot_symmetric t lane i j = ap (λ n. lane * lane_size t + place t n (max i j)) (min_comm i j) ∙ ap (λ n. lane * lane_size t + place t (min j i) n) (max_comm i j)
@@ -69,6 +63,9 @@ module _ (A : Arith) (L : Laws A) where
       let long : length xs ≡ n = length-map-range_with_len (λ i. (f i).0) 0 n in
       rw (counted_at n (λ i. (f i).0) i (omega arith)) (f i).1)
 
+  pub counted_made : (n : ℕ) (f : ℕ → Code A) (xs : List ℕ) → xs ≡ map (λ i. (f i).0) (range_with_len 0 n) → Codes A xs × (length xs ≡ n)
+  counted_made n f xs e = (subst (Codes A) (sym e) (counted_codes n f), ap length e ∙ length-map-range_with_len (λ i. (f i).0) 0 n)
+
   module _ (t : ℕ) (D : List ℕ) (below : Codes A D) where
     -- a(i,j) of a lane
     abbrev pub square : ℕ → ℕ → ℕ → Code A
@@ -80,23 +77,19 @@ module _ (A : Arith) (L : Laws A) where
     abbrev pub key_element : Code A → Code A → ℕ → Code A
     key_element u v lane = value_at R (t + 1) (share_element u lane) v
 
-    pub share_code_is : (u : Code A) (lane j : ℕ) → share_code A t D u.0 lane j ≡ (share_element u lane j).0
-    unfolding share_code coefficient
-    share_code_is u lane j = sym (value_code A L (t + 1) (λ i. square lane i j) u)
-
     -- the codes of a share, by their number
     abbrev pub share_by : Code A → ℕ → Code A
     share_by u n = share_element u (n / (t + 1)) (n % (t + 1))
 
     pub share_is : (m : ℕ) (u : Code A) → share A t m D u.0 ≡ map (λ n. (share_by u n).0) (range_with_len 0 (m * (t + 1)))
-    unfolding share
+    unfolding share share_code coefficient
     share_is m u =
-        counted_same (m * (t + 1)) (λ n. share_code A t D u.0 (n / (t + 1)) (n % (t + 1))) (λ n. (share_by u n).0) (λ n h. share_code_is u (n / (t + 1)) (n % (t + 1)))
+        counted_same (m * (t + 1)) (λ n. share_code A t D u.0 (n / (t + 1)) (n % (t + 1))) (λ n. (share_by u n).0) (λ n h. sym (value_code A L (t + 1) (λ i. square (n / (t + 1)) i (n % (t + 1))) u))
 
     pub share_at : (m : ℕ) (u : Code A) (lane j : ℕ) → lane < m → j < t + 1 → get_or (share A t m D u.0) (lane * (t + 1) + j) 0 ≡ (share_element u lane j).0
     share_at m u lane j h k =
         ap (λ xs. get_or xs (lane * (t + 1) + j) 0) (share_is m u)
-        ∙ counted_at (m * (t + 1)) (λ n. (share_by u n).0) (lane * (t + 1) + j) (row_place lane (t + 1) m j h k)
+        ∙ counted_at (m * (t + 1)) (λ n. (share_by u n).0) (lane * (t + 1) + j) (digits_lt h k)
         ∙ ap (λ l. (share_element u l ((lane * (t + 1) + j) % (t + 1))).0) (div-mul-add lane (t + 1) j k)
         ∙ ap (λ n. (share_element u lane n).0) (mod-mul-add lane (t + 1) j k)
 

@@ -12,7 +12,7 @@ use Rattle.polynomial.specs.Seat.{seat}
 use Rattle.polynomial.specs.Share.{share}
 use Rattle.polynomial.specs.Table.{lane_size, place, master_size, Master}
 use Rattle.polynomial.specs.Theorems.{Vanishing, Determines}
-use Rattle.polynomial.proofs.Carried.{counted_apart, lane_some, some_width, spot, evaluation_is, square, share_at, seat_element, seat_is}
+use Rattle.polynomial.proofs.Carried.{counted_apart, some_width, spot, evaluation_is, square, share_at, seat_element, seat_is}
 use Rattle.polynomial.proofs.Evaluation.{code_at}
 use Rattle.polynomial.proofs.Places.{row_of, column_of, row_before_column, column_most, place_of_row}
 use Rattle.polynomial.proofs.Roots.{Apart, vanishing, same_coefficients}
@@ -22,7 +22,7 @@ pub spot_of : (t m n : ℕ) → n < master_size t m → spot t (n / lane_size t)
 spot_of t m n h =
     let T = lane_size t in
     let p = n % T in
-    let some : 0 < T = lane_some t in
+    let some : 0 < T = omega arith in
     let inside : p < T = mod_below n T some in
     let rising = row_before_column t p in
     ap (λ i. n / T * T + place t i (max (row_of t p) (column_of t p))) (min-eq_left rising)
@@ -69,7 +69,7 @@ module _ (A : Arith) (L : Laws A) where
       (λ n h.
       let inside : n < master_size t m = omega (arith, m₁.size) in
       let T = lane_size t in
-      let some : 0 < T = lane_some t in
+      let some : 0 < T = omega arith in
       let p = n % T in
       let last = column_most t p (mod_below n T some) in
       ap (λ k. get_or first k 0) (sym (spot_of t m n inside))

@@ -2,24 +2,21 @@
 use Rattle.std.proofs.Common.{◌≡◌, ℕ, zero, suc, ◌+◌, ◌*◌, ◌<◌, ◌≤◌, List, [], ◌∷◌, map, length, get_or, take, drop, sym, refl, ap, ◌∙◌, ⊎_elim, arith}
 use mathlib.Core.Path.{fun_ext}
 use Rattle.std.specs.List.{AllByRecursion}
-use Rattle.std.proofs.ByRecursion.{All-get_or, All-map}
+use Rattle.std.proofs.ByRecursion.{All-get_or}
 use Rattle.std.proofs.lemmas.List.FromFn.{get_or-map-range_with_len, length-map-range_with_len}
-use Rattle.std.proofs.lemmas.List.{get_or_past, get_or-take, get_or-drop, length-take, length-drop}
+use Rattle.std.proofs.lemmas.List.{get_or_past}
 use Rattle.std.proofs.lemmas.Bool.{cases_lt}
 use Rattle.field.specs.Arith.{Arith, Laws, Coding, power}
 use Rattle.field.proofs.Codes.{Code, codes}
 use Rattle.polynomial.specs.PairKey.{pair_key}
 use Rattle.polynomial.specs.Polynomial.{sum_over, product_over, evaluation}
+use Rattle.polynomial.proofs.Reading.{length_part, part_at}
 use Rattle.polynomial.proofs.Sums.{sums, products, powers, value_at, horner_rule}
-
--- what holds of every element holds of each in a list
-everywhere : {X : Type 0} (P : X → Type 0) → ((x : X) → P x) → (xs : List X) → AllByRecursion P xs
-everywhere P all [] = tt
-everywhere P all (x ∷ xs) = (all x, everywhere P all xs)
 
 -- the codes of elements are below the order
 pub codes_below : {A : Arith} {E : Type 0} {code : E → ℕ} → Coding A code → (xs : List E) → AllByRecursion (λ c. c < A.order) (map code xs)
-codes_below {A} {E} {code} coding xs = All-map (λ c. c < A.order) code xs (everywhere (λ x. code x < A.order) coding.below xs)
+codes_below coding [] = tt
+codes_below coding (x ∷ xs) = (coding.below x, codes_below coding xs)
 
 module _ (A : Arith) (L : Laws A) where
   pub sums_code : (n : ℕ) (f : ℕ → Code A) → (sums (codes A L) n f).0 ≡ sum_over A n (λ j. (f j).0)
@@ -85,10 +82,10 @@ pub pair_key_lane : (A : Arith) (t m : ℕ) (share : List ℕ) (v lane : ℕ) �
 unfolding pair_key evaluation
 pair_key_lane A t m share v lane inside enough =
     let codes = take (t + 1) (drop (lane * (t + 1)) share) in
-    let long : length codes ≡ t + 1 = simp (length-take, length-drop) (omega arith) in
+    let long : length codes ≡ t + 1 = length_part share (lane * (t + 1)) (t + 1) enough in
     get_or-map-range_with_len (λ l. sum_over A (t + 1) (λ j. A.product (get_or share (l * (t + 1) + j) 0) (power A.product v j))) 0 m lane lane 0 inside (omega arith)
     ∙ sum_over_same A (t + 1) (λ j. A.product (get_or share (lane * (t + 1) + j) 0) (power A.product v j)) (λ j. A.product (get_or codes j 0) (power A.product v j))
-    (λ j h. ap (λ c. A.product c (power A.product v j)) (sym (get_or-take (t + 1) (drop (lane * (t + 1)) share) j 0 h ∙ get_or-drop (lane * (t + 1)) share j 0)))
+    (λ j h. ap (λ c. A.product c (power A.product v j)) (sym (part_at share (lane * (t + 1)) (t + 1) j h)))
     ∙ ap (λ n. sum_over A n (λ j. A.product (get_or codes j 0) (power A.product v j))) (sym long)
 
 pub length_pair_key : (A : Arith) (t m : ℕ) (share : List ℕ) (v : ℕ) → length (pair_key A t m share v) ≡ m

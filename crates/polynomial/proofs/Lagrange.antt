@@ -1,11 +1,11 @@
 -- Through different points goes one polynomial, and the Lagrange sum on codes gives its values.
-use Rattle.std.proofs.Common.{◌≡◌, ℕ, ◌<◌, cond, eqb, List, [], ◌∷◌, map, length, get_or, set, Option, unwrap_or, sym, refl, ap, ◌∙◌, subst, ⊎_elim, arith}
+use Rattle.std.proofs.Common.{◌≡◌, ℕ, ◌<◌, cond, eqb, List, map, length, get_or, Option, unwrap_or, sym, refl, ap, ◌∙◌, subst, ⊎_elim, arith}
 use Rattle.std.specs.List.{range_with_len, swap}
 use Rattle.std.specs.List.Sorted.{IsPermutation}
 use Rattle.std.proofs.lemmas.List.FromFn.{length-map-range_with_len}
 use Rattle.std.proofs.ByRecursion.{All-get_or, All-from_get_or}
-use Rattle.std.proofs.lemmas.List.Edits.{length-swap}
-use Rattle.std.proofs.lemmas.List.{ext_get_or, get_or-map, length-map, length-set, get_or-set_same, get_or-set_other, get_or_default}
+use Rattle.std.proofs.lemmas.List.Edits.{length-swap, swapped_from_swap}
+use Rattle.std.proofs.lemmas.List.{ext_get_or, get_or-map, length-map}
 use Rattle.std.proofs.lemmas.List.Sorted.{IsPermutation-keeps}
 use Rattle.std.proofs.lemmas.Bool.{cases_eq, ne_eqb, eq-eqb, cond-true, cond-false, cond_both}
 use Rattle.std.proofs.lemmas.Bool.Decides.{nat_tests}
@@ -21,15 +21,12 @@ use Rattle.polynomial.proofs.Determined.{apart}
 use Rattle.polynomial.proofs.Evaluation.{code_at, code_below, sums_code, products_code, value_code, sum_over_same, product_over_same}
 use Rattle.polynomial.proofs.Roots.{Apart, same_coefficients}
 use Rattle.polynomial.proofs.Sums.{value_at}
-use Rattle.polynomial.proofs.Through.{Factors, lagrange, through, through_meets, lagrange_value}
+use Rattle.polynomial.proofs.Through.{minus, Factors, lagrange, through, through_meets, lagrange_value}
 use Rattle.polynomial.proofs.Through as elements
 
 module _ (A : Arith) (L : Laws A) where
   abbrev R : Ring (Code A)
   R = codes A L
-
-  abbrev minus : Code A → Code A → Code A
-  minus x y = R.add x (R.neg y)
 
   -- the inverse of a code, and zero for zero
   inverse_below : (x : ℕ) → x < A.order → unwrap_or (A.inverse x) 0 < A.order
@@ -48,20 +45,20 @@ module _ (A : Arith) (L : Laws A) where
   abbrev factor_element : Code A → Code A → Code A → Code A
   factor_element s x r = (
     factor A s.0 x.0 r.0,
-    cond_both (eqb r.0 s.0) 1 (R.mul (minus r x) (inverse_or_zero (minus r s))).0 (λ c. c < A.order)
+    cond_both (eqb r.0 s.0) 1 (R.mul (minus R r x) (inverse_or_zero (minus R r s))).0 (λ c. c < A.order)
         (λ e. omega (arith, L.order_least))
-        (λ e. (R.mul (minus r x) (inverse_or_zero (minus r s))).1),
+        (λ e. (R.mul (minus R r x) (inverse_or_zero (minus R r s))).1),
   )
 
   factors : Factors R factor_element
   factors = record {
-    own = λ s x. same_code A _ _ (cond-true (eqb s.0 s.0) 1 (R.mul (minus s x) (inverse_or_zero (minus s s))).0 (eq-eqb s.0 s.0 refl));
+    own = λ s x. same_code A _ _ (cond-true (eqb s.0 s.0) 1 (R.mul (minus R s x) (inverse_or_zero (minus R s s))).0 (eq-eqb s.0 s.0 refl));
     other = λ s r differ. (
-      inverse_or_zero (minus r s),
-      (λ x. same_code A _ _ (cond-false (eqb r.0 s.0) 1 (R.mul (minus r x) (inverse_or_zero (minus r s))).0 (ne_eqb r.0 s.0 (λ e. differ (same_code A r s e))))),
+      inverse_or_zero (minus R r s),
+      (λ x. same_code A _ _ (cond-false (eqb r.0 s.0) 1 (R.mul (minus R r x) (inverse_or_zero (minus R r s))).0 (ne_eqb r.0 s.0 (λ e. differ (same_code A r s e))))),
       same_code A _ _
-          (let (y, found, below, unit) = L.inverse_else (minus r s).0 (minus r s).1 (λ e. differ (equal R r s (same_code A _ _ e))) in
-          ap (λ (o : Option ℕ). A.product (minus r s).0 (unwrap_or o 0)) found ∙ unit),
+          (let (y, found, below, unit) = L.inverse_else (minus R r s).0 (minus R r s).1 (λ e. differ (equal R r s (same_code A _ _ e))) in
+          ap (λ (o : Option ℕ). A.product (minus R r s).0 (unwrap_or o 0)) found ∙ unit),
     );
   }
 
@@ -172,30 +169,9 @@ before_within : (a b i n : ℕ) → a < n → b < n → i < n → before a b i <
 before_within a b i n h k l = grind (arith, nat_tests)
 
 exchanged_at : {X : Type 0} (xs : List X) (a b i : ℕ) (d : X) → a < length xs → b < length xs → get_or (swap xs a b) i d ≡ get_or xs (before a b i) d
-exchanged_at [] a b i d h k = absurd (omega arith)
-exchanged_at (x ∷ ys) a b i d h k =
-    let xs = x ∷ ys in
-    let va = get_or xs a x in
-    let vb = get_or xs b x in
-    let first = set xs a vb in
-    ⊎_elim
-    (λ e.
-    ap (λ n. get_or (set first b va) n d) e
-    ∙ get_or-set_same first b va d (simp length-set k)
-    ∙ get_or_default xs a x d h
-    ∙ ap (λ n. get_or xs n d) (sym (cond-true (eqb i b) a (cond (eqb i a) b i) (eq-eqb i b e))))
-    (λ ne.
-    get_or-set_other first b i va d ne
-    ∙ ⊎_elim
-    (λ e.
-    ap (λ n. get_or first n d) e
-    ∙ get_or-set_same xs a vb d h
-    ∙ get_or_default xs b x d k
-    ∙ ap (λ n. get_or xs n d) (sym (cond-true (eqb i a) b i (eq-eqb i a e))))
-    (λ ne'. get_or-set_other xs a i vb d ne' ∙ ap (λ n. get_or xs n d) (sym (cond-false (eqb i a) b i (ne_eqb i a ne'))))
-    (cases_eq i a)
-    ∙ ap (λ n. get_or xs n d) (sym (cond-false (eqb i b) a (cond (eqb i a) b i) (ne_eqb i b ne))))
-    (cases_eq i b)
+exchanged_at xs a b i d h k =
+    let (at_a, at_b, apart) = swapped_from_swap xs (swap xs a b) a b d h k refl in
+    grind (arith, nat_tests)
 
 abbrev firsts : List (ℕ × ℕ) → List ℕ
 firsts ps = map (λ p. p.0) ps
@@ -234,16 +210,10 @@ module _ (A : Arith) (L : Laws A) where
   second_at : (ps : List (ℕ × ℕ)) (i : ℕ) → i < length ps → get_or (seconds ps) i 0 ≡ (pair_at ps i).1
   second_at ps i h = get_or-map (λ (p : ℕ × ℕ). p.1) ps i (0, 0) 0 h
 
-  length_firsts : (ps : List (ℕ × ℕ)) → length (firsts ps) ≡ length ps
-  length_firsts ps = length-map ps (λ (p : ℕ × ℕ). p.0)
-
-  length_seconds : (ps : List (ℕ × ℕ)) → length (seconds ps) ≡ length ps
-  length_seconds ps = length-map ps (λ (p : ℕ × ℕ). p.1)
-
   to_on : (coefficients : List ℕ) (ps : List (ℕ × ℕ)) → Points A (firsts ps) (seconds ps) → Through A (firsts ps) (seconds ps) coefficients → On coefficients ps
   to_on coefficients ps P T =
-      let long = length_firsts ps in
-      let long₂ = length_seconds ps in
+      let long = length-map ps (λ (p : ℕ × ℕ). p.0) in
+      let long₂ = length-map ps (λ (p : ℕ × ℕ). p.1) in
       record {
         count = T.count ∙ long;
         each = λ i h. (
@@ -259,8 +229,8 @@ module _ (A : Arith) (L : Laws A) where
 
   on_points : (coefficients : List ℕ) (ps : List (ℕ × ℕ)) → On coefficients ps → Points A (firsts ps) (seconds ps)
   on_points coefficients ps on =
-      let long = length_firsts ps in
-      let long₂ = length_seconds ps in
+      let long = length-map ps (λ (p : ℕ × ℕ). p.0) in
+      let long₂ = length-map ps (λ (p : ℕ × ℕ). p.1) in
       record {
         different = λ i j h k e.
             on.different i j (omega arith) (omega arith) (sym (first_at ps i (omega arith)) ∙ e ∙ first_at ps j (omega arith));
@@ -271,8 +241,8 @@ module _ (A : Arith) (L : Laws A) where
 
   on_through : (coefficients : List ℕ) (ps : List (ℕ × ℕ)) → Codes A coefficients → On coefficients ps → Through A (firsts ps) (seconds ps) coefficients
   on_through coefficients ps below on =
-      let long = length_firsts ps in
-      let long₂ = length_seconds ps in
+      let long = length-map ps (λ (p : ℕ × ℕ). p.0) in
+      let long₂ = length-map ps (λ (p : ℕ × ℕ). p.1) in
       let values = map (evaluation A coefficients) (firsts ps) in
       let long₃ = length-map (firsts ps) (evaluation A coefficients) in
       record {

@@ -1,9 +1,7 @@
 -- Draws that a pool cannot tell apart are paired off, by adding a draw that it cannot see and taking it away again.
-use Rattle.std.proofs.Common.{◌≡◌, ℕ, ◌+◌, ◌*◌, ◌<◌, List, [], ◌∷◌, length, replicate, sym, ap, ◌∙◌, subst}
+use Rattle.std.proofs.Common.{◌≡◌, ℕ, ◌+◌, ◌*◌, ◌<◌, List, [], ◌∷◌, length, replicate, sym, ap, ◌∙◌}
 use Rattle.std.specs.List.{AllByRecursion}
-use Rattle.std.proofs.lemmas.List.FromFn.{length-map-range_with_len}
 use Rattle.field.specs.Arith.{Arith, Laws}
-use Rattle.field.proofs.Codes.{Code}
 use Rattle.polynomial.specs.Adding.{plus, negated}
 use Rattle.polynomial.specs.Polynomial.{Codes}
 use Rattle.polynomial.specs.Seat.{seat}
@@ -11,7 +9,7 @@ use Rattle.polynomial.specs.Share.{share, master_key}
 use Rattle.polynomial.specs.Table.{master_size, Draw}
 use Rattle.polynomial.specs.Theorems.{Pool, Numbered, Unseen, Fits, Keys, Gives, Taken, Pairing, OpenKey}
 use Rattle.polynomial.proofs.Added.{adding, length_plus, plus_codes, negated_codes, plus_comm, plus_negated, negated_plus, plus_zeros}
-use Rattle.polynomial.proofs.Carried.{counted_codes, share_by, share_is, key_element, key_is, seat_element, seat_is}
+use Rattle.polynomial.proofs.Carried.{counted_made, share_by, share_is, key_element, key_is, seat_element, seat_is}
 use Rattle.polynomial.proofs.Shift.{unseen_shift}
 
 -- what holds of each of a list, from two facts that do
@@ -24,37 +22,14 @@ module _ (A : Arith) (L : Laws A) where
     abbrev size : ℕ
     size = master_size t m
 
-    share_codes : (u : ℕ) → u < A.order → Codes A (share A t m draw u)
-    share_codes u h =
-        let x : Code A = (u, h) in
-        subst (Codes A) (sym (share_is A L t draw d.codes m x)) (counted_codes A L (m * (t + 1)) (share_by A L t draw d.codes x))
+    share_made : (u : ℕ) → u < A.order → Codes A (share A t m draw u) × (length (share A t m draw u) ≡ m * (t + 1))
+    share_made u h = counted_made A L (m * (t + 1)) (share_by A L t draw d.codes (u, h)) _ (share_is A L t draw d.codes m (u, h))
 
-    share_length : (u : ℕ) → u < A.order → length (share A t m draw u) ≡ m * (t + 1)
-    share_length u h =
-        let x : Code A = (u, h) in
-        ap length (share_is A L t draw d.codes m x) ∙ length-map-range_with_len (λ n. (share_by A L t draw d.codes x n).0) 0 (m * (t + 1))
+    key_made : (u v : ℕ) → u < A.order → v < A.order → Codes A (master_key A t m draw u v) × (length (master_key A t m draw u v) ≡ m)
+    key_made u v h l = counted_made A L m (key_element A L t draw d.codes (u, h) (v, l)) _ (key_is A L t draw d.codes m (u, h) (v, l))
 
-    key_codes : (u v : ℕ) → u < A.order → v < A.order → Codes A (master_key A t m draw u v)
-    key_codes u v h l =
-        let x : Code A = (u, h) in
-        let y : Code A = (v, l) in
-        subst (Codes A) (sym (key_is A L t draw d.codes m x y)) (counted_codes A L m (key_element A L t draw d.codes x y))
-
-    key_length : (u v : ℕ) → u < A.order → v < A.order → length (master_key A t m draw u v) ≡ m
-    key_length u v h l =
-        let x : Code A = (u, h) in
-        let y : Code A = (v, l) in
-        ap length (key_is A L t draw d.codes m x y) ∙ length-map-range_with_len (λ lane. (key_element A L t draw d.codes x y lane).0) 0 m
-
-    seat_codes : (s : ℕ) → s < A.order → Codes A (seat A size k draw s)
-    seat_codes s h =
-        let x : Code A = (s, h) in
-        subst (Codes A) (sym (seat_is A L size k draw d.codes x)) (counted_codes A L size (seat_element A L size k draw d.codes x))
-
-    seat_length : (s : ℕ) → s < A.order → length (seat A size k draw s) ≡ size
-    seat_length s h =
-        let x : Code A = (s, h) in
-        ap length (seat_is A L size k draw d.codes x) ∙ length-map-range_with_len (λ p. (seat_element A L size k draw d.codes x p).0) 0 size
+    seat_made : (s : ℕ) → s < A.order → Codes A (seat A size k draw s) × (length (seat A size k draw s) ≡ size)
+    seat_made s h = counted_made A L size (seat_element A L size k draw d.codes (s, h)) _ (seat_is A L size k draw d.codes (s, h))
 
   module _ (t m k : ℕ) (pool : Pool A) (shift : List ℕ) (numbered : Numbered A pool) (s : Draw A t m k shift) (unseen : Unseen A t m k pool shift) where
     -- the pool has the same of a draw and of its sum with the shift
@@ -62,18 +37,20 @@ module _ (A : Arith) (L : Laws A) where
     same_shares draw d =
         all_both (λ u. u < A.order) (λ u. share A t m shift u ≡ replicate (m * (t + 1)) 0) (λ u. share A t m (plus A draw shift) u ≡ share A t m draw u)
         (λ u h none.
+        let (made, long) = share_made t m k draw d u h in
         (adding A L t m k draw shift d s).shares u h
         ∙ ap (plus A (share A t m draw u)) none
-        ∙ plus_zeros A L (share A t m draw u) (m * (t + 1)) (share_codes t m k draw d u h) (share_length t m k draw d u h))
+        ∙ plus_zeros A L (share A t m draw u) (m * (t + 1)) made long)
         pool.kiosks numbered.kiosks unseen.kiosks
 
     same_seats : (draw : List ℕ) → Draw A t m k draw → AllByRecursion (λ n. seat A (master_size t m) k (plus A draw shift) n ≡ seat A (master_size t m) k draw n) pool.seats
     same_seats draw d =
         all_both (λ n. n < A.order) (λ n. seat A (master_size t m) k shift n ≡ replicate (master_size t m) 0) (λ n. seat A (master_size t m) k (plus A draw shift) n ≡ seat A (master_size t m) k draw n)
         (λ n h none.
+        let (made, long) = seat_made t m k draw d n h in
         (adding A L t m k draw shift d s).seats n h
         ∙ ap (plus A (seat A (master_size t m) k draw n)) none
-        ∙ plus_zeros A L (seat A (master_size t m) k draw n) (master_size t m) (seat_codes t m k draw d n h) (seat_length t m k draw d n h))
+        ∙ plus_zeros A L (seat A (master_size t m) k draw n) (master_size t m) made long)
         pool.seats numbered.seats unseen.seats
 
     fits_there : (other draw : List ℕ) → Fits A t m k pool other draw → Fits A t m k pool other (plus A draw shift)
@@ -131,9 +108,9 @@ module _ (A : Arith) (L : Laws A) where
           let K = master_key A t m shift u v in
           let X = master_key A t m (less draw) u v in
           let ld = less_draw draw d in
-          let K_codes = key_codes t m k shift s u v h l in
-          let K_length = key_length t m k shift s u v h l in
-          sym (plus_negated A L X K (key_codes t m k (less draw) ld u v h l) K_codes (K_length ∙ sym (key_length t m k (less draw) ld u v h l)))
+          let (K_codes, K_length) = key_made t m k shift s u v h l in
+          let (X_codes, X_length) = key_made t m k (less draw) ld u v h l in
+          sym (plus_negated A L X K X_codes K_codes (K_length ∙ sym X_length))
           ∙ ap (λ x. plus A x (negated A K)) (sym ((adding A L t m k (less draw) shift ld s).keys u v h l) ∙ ap (λ x. master_key A t m x u v) (less_again draw d) ∙ e ∙ sym T.taken)
           ∙ plus_negated A L (one u v) K T.codes K_codes (K_length ∙ sym T.count))
           pairs taken

@@ -14,15 +14,8 @@ fewer (suc n) =
     let less : suc n - 1 ≡ n = omega arith in
     omega (arith, fewer n, ap (λ k. suc n * k) less, suc-mul n n, suc-mul n (suc n), mul-suc n n)
 
--- what the rows before row i lack of full ones is no more than these have
-pub row_start_whole : (t i : ℕ) → i ≤ t + 1 → i * (i - 1) / 2 ≤ i * (t + 1)
-row_start_whole t i h = omega (arith, fewer i, mul-le-mul_left i h)
-
-pub row_start_zero : (t : ℕ) → row_start t 0 ≡ 0
-row_start_zero t = omega arith
-
 pub row_start_more : (t i : ℕ) → i ≤ t → row_start t (i + 1) ≡ row_start t i + (t + 1 - i)
-row_start_more t i h = omega (arith, fewer i, fewer (i + 1), row_start_whole t i (omega arith))
+row_start_more t i h = let most : i ≤ t + 1 = omega arith in omega (arith, fewer i, fewer (i + 1), mul-le-mul_left i most)
 
 pub row_start_end : (t : ℕ) → row_start t (t + 1) ≡ lane_size t
 row_start_end t = omega (arith, fewer (t + 1))
@@ -56,7 +49,7 @@ record Row (t p n row : ℕ) : Type 0 where
 
 last_row_is : (t p n : ℕ) → p < row_start t (n + 1) → Row t p n (last_row t p n)
 unfolding last_row
-last_row_is t p zero h = record { most = omega arith; from = omega (arith, row_start_zero t); before = h }
+last_row_is t p zero h = record { most = omega arith; from = omega arith; before = h }
 last_row_is t p (suc n) h =
     cond_both (leb (row_start t (suc n)) p) (suc n) (last_row t p n) (Row t p (suc n))
     (λ e. record { most = omega arith; from = leb-true (row_start t (suc n)) p e; before = h })

@@ -1,17 +1,12 @@
 -- Zeros of polynomials over any field: dividing by x - a, and why a polynomial with as many different zeros as coefficients vanishes.
 use Rattle.std.proofs.Common.{◌≡◌, ℕ, zero, suc, ◌<◌, [], ◌∷◌, sym, refl, ap, ◌∙◌, ⊎_elim, arith}
-use Rattle.field.proofs.Ring.{Ring, Field, add_zero, mul_one, mul_zero, equal, zero_factor}
+use Rattle.field.proofs.Ring.{Ring, Field, add_zero, mul_one, mul_zero, zero_mul, equal, zero_factor}
 use Rattle.field.proofs.Solve.{var, #1, ◌⊕◌, ◌⊗◌, ⊖◌, ring}
 use Rattle.polynomial.proofs.Sums.{value_at, value_add, value_mul, horner_rule}
 
 -- no point comes twice among p 0, .., p (n - 1)
 abbrev pub Apart : {E : Type 0} → ℕ → (ℕ → E) → Type 0
 Apart n p = (i j : ℕ) → i < n → j < n → p i ≡ p j → i ≡ j
-
--- what holds of 0 and of every successor below n holds of every number below
-pub by_cases : (P : ℕ → Type 0) (n : ℕ) → P 0 → ((j : ℕ) → j < n → P (suc j)) → (j : ℕ) → j < suc n → P j
-by_cases P n first later zero h = first
-by_cases P n first later (suc j) h = later j (omega arith)
 
 module _ {E : Type 0} (R : Ring E) where
   -- the n coefficients of the quotient of c 0 + .. + c n·x^n by x - a
@@ -44,18 +39,15 @@ module _ {E : Type 0} (R : Ring E) where
   -- where the quotient and the value at a are zero, all coefficients are
   quotient_zero : (n : ℕ) (c : ℕ → E) (a : E) → ((j : ℕ) → j < n → quotient n c a j ≡ R.zero) → value_at R (suc n) c a ≡ R.zero → (j : ℕ) → j < suc n → c j ≡ R.zero
   unfolding quotient
-  quotient_zero zero c a none at_a =
-      by_cases (λ j. c j ≡ R.zero) 0 (sym (mul_one R (c 0)) ∙ sym (R.zero_add (R.mul (c 0) R.one)) ∙ at_a) (λ j h. absurd (omega arith))
-  quotient_zero (suc n) c a none at_a =
-      let rest = λ (i : ℕ). c (suc i) in
-      let v : value_at R (suc n) rest a ≡ R.zero = none 0 (omega arith) in
-      by_cases (λ j. c j ≡ R.zero) (suc n)
-      (sym (R.zero_add (c 0))
-      ∙ ap (λ w. R.add w (c 0)) (sym (R.mul_comm R.zero a ∙ mul_zero R a))
-      ∙ ap (λ w. R.add (R.mul w a) (c 0)) (sym v)
+  quotient_zero zero c a none at_a zero h = sym (mul_one R (c 0)) ∙ sym (R.zero_add (R.mul (c 0) R.one)) ∙ at_a
+  quotient_zero zero c a none at_a (suc j) h = absurd (omega arith)
+  quotient_zero (suc n) c a none at_a zero h =
+      sym (R.zero_add (c 0))
+      ∙ ap (λ w. R.add w (c 0)) (sym (zero_mul R a))
+      ∙ ap (λ w. R.add (R.mul w a) (c 0)) (sym (none 0 (omega arith)))
       ∙ sym (horner_rule R (suc n) c a)
-      ∙ at_a)
-      (quotient_zero n rest a (λ j h. none (suc j) (omega arith)) v)
+      ∙ at_a
+  quotient_zero (suc n) c a none at_a (suc j) h = quotient_zero n (λ i. c (suc i)) a (λ i l. none (suc i) (omega arith)) (none 0 (omega arith)) j (omega arith)
 
 module _ {E : Type 0} (K : Field E) where
   abbrev R : Ring E

@@ -3,6 +3,7 @@
 use Rattle.std.proofs.Common.{◌≡◌, ℕ, suc, ◌+◌, ◌*◌, ◌/◌, ◌%◌, ◌<◌, ◌≤◌, max, List, [], ◌∷◌, map, length, replicate, sym, refl, ap, ◌∙◌, ⊎_elim, arith}
 use native.Mathlib.Nat.{min-eq_left, min-eq_right, max-eq_left, max-eq_right}
 use Rattle.std.specs.List.{range_with_len, AllByRecursion}
+use lib.Arith.{digits_lt}
 use Rattle.std.proofs.lemmas.Nat.{div-mul-add, mod-mul-add, div_below, mod_below}
 use Rattle.std.proofs.lemmas.List.FromFn.{fill_by_all, length-map-range_with_len}
 use Rattle.std.proofs.ByRecursion.{All-get_or, All-from_get_or}
@@ -17,11 +18,11 @@ use Rattle.polynomial.specs.Seat.{seat}
 use Rattle.polynomial.specs.Share.{share, master_key}
 use Rattle.polynomial.specs.Table.{lane_size, place, master_size, Draw}
 use Rattle.polynomial.specs.Theorems.{Pool, Numbered, Unseen, UnseenShift}
-use Rattle.polynomial.proofs.Carried.{counted_at, counted_codes, row_place, spot, spot_within, share_element, share_by, share_is, key_element, key_is, seat_element, seat_is}
+use Rattle.polynomial.proofs.Carried.{counted_at, counted_codes, spot, spot_within, share_element, share_by, share_is, key_element, key_is, seat_element, seat_is}
 use Rattle.polynomial.proofs.Evaluation.{code_at}
 use Rattle.polynomial.proofs.Places.{row_of, column_of, place_in_lane, row_of_place, column_of_place}
 use Rattle.polynomial.proofs.Sums.{products, value_at, value_zero, value_same, value_mul}
-use Rattle.polynomial.proofs.Through.{Polynomial, lengthened, scaled, with_roots, product_zero, product_nonzero}
+use Rattle.polynomial.proofs.Through.{minus, Polynomial, lengthened, scaled, with_roots, product_zero, product_nonzero}
 
 zeros_counted : (n : ℕ) (f : ℕ → ℕ) → ((i : ℕ) → i < n → f i ≡ 0) → map f (range_with_len 0 n) ≡ replicate n 0
 zeros_counted n f none =
@@ -31,16 +32,13 @@ module _ (A : Arith) (L : Laws A) where
   abbrev R : Ring (Code A)
   R = codes A L
 
-  abbrev minus : Code A → Code A → Code A
-  minus x y = R.add x (R.neg y)
-
   one_nonzero : R.one ≡ R.zero → ⊥
   one_nonzero e = let Codes-same : ◌≡◌ {A = ℕ} 1 0 = ap (λ (c : Code A). c.0) e in omega arith
 
   -- a product of differences from given points, as a polynomial of any number of coefficients that suffices
   module _ (points : List ℕ) (below : Codes A points) where
     abbrev from : Code A → Code A
-    from x = products R (length points) (λ i. minus (code_at A L points below i) x)
+    from x = products R (length points) (λ i. minus R (code_at A L points below i) x)
 
     from_polynomial : (n : ℕ) → length points < n → Polynomial R n from
     from_polynomial n h = lengthened R (suc (length points)) n from h (with_roots R (length points) (code_at A L points below))
@@ -48,11 +46,11 @@ module _ (A : Arith) (L : Laws A) where
     from_zero : (i : ℕ) → i < length points → from (code_at A L points below i) ≡ R.zero
     from_zero i h =
         let r = code_at A L points below i in
-        product_zero R (length points) (λ j. minus (code_at A L points below j) r) i h (R.add_neg r)
+        product_zero R (length points) (λ j. minus R (code_at A L points below j) r) i h (R.add_neg r)
 
     from_nonzero : (x : Code A) → AllByRecursion (λ w. w ≡ x.0 → ⊥) points → from x ≡ R.zero → ⊥
     from_nonzero x apart =
-        product_nonzero (codes_field A L) (length points) (λ i. minus (code_at A L points below i) x) one_nonzero
+        product_nonzero (codes_field A L) (length points) (λ i. minus R (code_at A L points below i) x) one_nonzero
         (λ i h e. All-get_or (λ w. w ≡ x.0 → ⊥) points i 0 h apart (ap (λ (c : Code A). c.0) (equal R (code_at A L points below i) x e)))
 
   -- the square c·f(i)·f(j) in each lane, times g(e) in block e
@@ -78,7 +76,7 @@ module _ (A : Arith) (L : Laws A) where
     shift_at : (e p : ℕ) → e < k → p < size → code_at A L shift shift_codes (e * size + p) ≡ R.mul (at_master p) (g e)
     unfolding at_draw
     shift_at e p h l =
-        same_code A _ _ (counted_at (k * size) (λ n. (at_draw n).0) (e * size + p) (row_place e size k p h l))
+        same_code A _ _ (counted_at (k * size) (λ n. (at_draw n).0) (e * size + p) (digits_lt h l))
         ∙ ap (λ n. R.mul (at_master n) (g ((e * size + p) / size))) (mod-mul-add e size p l)
         ∙ ap (λ n. R.mul (at_master p) (g n)) (div-mul-add e size p l)
 

@@ -1,7 +1,8 @@
 -- Sums, products, powers and the values of polynomials in any commutative ring.
-use Rattle.std.proofs.Common.{◌≡◌, ℕ, zero, suc, ◌<◌, sym, refl, ap, ◌∙◌, ⊎_elim, arith}
+use Rattle.std.proofs.Common.{◌≡◌, ℕ, zero, suc, ◌<◌, [], ◌∷◌, sym, refl, ap, ◌∙◌, ⊎_elim, arith}
 use mathlib.Core.Path.{fun_ext}
 use Rattle.std.proofs.lemmas.Bool.{cases_lt}
+use Rattle.field.proofs.Solve.{var, ◌⊗◌, ring}
 use Rattle.field.proofs.Ring.{Ring, add_zero, mul_one, mul_zero, add_mul, add_swap}
 
 module _ {E : Type 0} (R : Ring E) where
@@ -59,10 +60,6 @@ module _ {E : Type 0} (R : Ring E) where
   sums_swap zero k f = sym (sums_zero k (λ j. R.zero) (λ j h. refl))
   sums_swap (suc n) k f = ap (λ s. R.add s (sums k (f n))) (sums_swap n k f) ∙ sym (sums_add k (λ j. sums n (λ i. f i j)) (f n))
 
-  -- a factor moves to the front
-  mul_swap : (x y z : E) → R.mul x (R.mul y z) ≡ R.mul y (R.mul x z)
-  mul_swap x y z = sym (R.mul_assoc x y z) ∙ ap (λ w. R.mul w z) (R.mul_comm x y) ∙ R.mul_assoc y x z
-
   -- the value at x of the polynomial with the coefficients c 0, .., c (n - 1)
   abbrev pub value_at : ℕ → (ℕ → E) → E → E
   value_at n c x = sums n (λ j. R.mul (c j) (powers x j))
@@ -72,7 +69,7 @@ module _ {E : Type 0} (R : Ring E) where
       sums_first n (λ j. R.mul (c j) (powers x j))
       ∙ ap (λ w. R.add w (sums n (λ j. R.mul (c (suc j)) (R.mul x (powers x j))))) (mul_one R (c 0))
       ∙ ap (R.add (c 0))
-      (ap (sums n) (fun_ext (λ j. mul_swap (c (suc j)) x (powers x j)))
+      (ap (sums n) (fun_ext (λ j. ring R (c (suc j) ∷ x ∷ powers x j ∷ []) (var 0 ⊗ (var 1 ⊗ var 2)) (var 1 ⊗ (var 0 ⊗ var 2)) refl))
       ∙ sums_mul n x (λ j. R.mul (c (suc j)) (powers x j))
       ∙ R.mul_comm x (value_at n (λ j. c (suc j)) x))
       ∙ R.add_comm (c 0) (R.mul (value_at n (λ j. c (suc j)) x) x)
@@ -103,7 +100,5 @@ module _ {E : Type 0} (R : Ring E) where
     where
       turn : (i j : ℕ) → R.mul (powers v j) (R.mul (a i j) (powers u i)) ≡ R.mul (powers u i) (R.mul (a j i) (powers v j))
       turn i j =
-          R.mul_comm (powers v j) (R.mul (a i j) (powers u i))
-          ∙ ap (λ w. R.mul w (powers v j)) (R.mul_comm (a i j) (powers u i))
-          ∙ R.mul_assoc (powers u i) (a i j) (powers v j)
+          ring R (powers v j ∷ a i j ∷ powers u i ∷ []) (var 0 ⊗ (var 1 ⊗ var 2)) (var 2 ⊗ (var 1 ⊗ var 0)) refl
           ∙ ap (λ w. R.mul (powers u i) (R.mul w (powers v j))) (both i j)

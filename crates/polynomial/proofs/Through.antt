@@ -1,10 +1,10 @@
 -- Functions that polynomials give, over any field: how they are put together from linear factors, and the one through given points.
 use Rattle.std.proofs.Common.{◌≡◌, ℕ, zero, suc, ◌<◌, ◌≤◌, ◌⊎◌, [], ◌∷◌, sym, refl, ap, ◌∙◌, inl, inr, ⊎_elim, arith}
 use Rattle.std.proofs.lemmas.Bool.{cases_lt}
-use Rattle.field.proofs.Ring.{Ring, Field, add_zero, mul_one, mul_zero, equal, zero_factor}
+use Rattle.field.proofs.Ring.{Ring, Field, add_zero, mul_one, mul_zero, zero_mul, equal, zero_factor}
 use Rattle.field.proofs.Solve.{var, #1, ◌⊕◌, ◌⊗◌, ⊖◌, ring}
 use Rattle.polynomial.proofs.Roots.{Apart, same_coefficients}
-use Rattle.polynomial.proofs.Sums.{sums, products, powers, sums_one, value_at, value_same, value_add, value_mul, horner_rule}
+use Rattle.polynomial.proofs.Sums.{sums, products, powers, sums_zero, sums_one, value_at, value_same, value_add, value_mul, horner_rule}
 
 module _ {E : Type 0} (R : Ring E) where
   -- a function that a polynomial of n coefficients gives, with zeros behind them
@@ -13,7 +13,7 @@ module _ {E : Type 0} (R : Ring E) where
     pub none_above : (j : ℕ) → n ≤ j → coefficient j ≡ R.zero
     pub gives : (x : E) → f x ≡ value_at R n coefficient x
 
-  abbrev minus : E → E → E
+  abbrev pub minus : E → E → E
   minus x y = R.add x (R.neg y)
 
   -- what follows a first coefficient
@@ -36,7 +36,7 @@ module _ {E : Type 0} (R : Ring E) where
   longer : (n : ℕ) (c : ℕ → E) (x : E) → c n ≡ R.zero → value_at R (suc n) c x ≡ value_at R n c x
   longer n c x e =
       ap (λ w. R.add (value_at R n c x) (R.mul w (powers R x n))) e
-      ∙ ap (R.add (value_at R n c x)) (R.mul_comm R.zero (powers R x n) ∙ mul_zero R (powers R x n))
+      ∙ ap (R.add (value_at R n c x)) (zero_mul R (powers R x n))
       ∙ add_zero R (value_at R n c x)
 
   longer_by : (n k : ℕ) (c : ℕ → E) (x : E) → n ≤ k → ((j : ℕ) → n ≤ j → c j ≡ R.zero) → value_at R k c x ≡ value_at R n c x
@@ -100,14 +100,11 @@ module _ {E : Type 0} (R : Ring E) where
 
   -- a sum of such functions
   total : (n k : ℕ) (f : ℕ → E → E) → ((i : ℕ) → i < k → Polynomial n (f i)) → Polynomial n (λ x. sums R k (λ i. f i x))
-  total n zero f each = record { coefficient = λ j. R.zero; none_above = λ j h. refl; gives = λ x. sym (value_zeros n x) }
-    where
-      value_zeros : (n : ℕ) (x : E) → value_at R n (λ j. R.zero) x ≡ R.zero
-      value_zeros n x =
-          value_same R n (λ j. R.zero) (λ j. R.mul R.zero R.zero) x (λ j h. sym (mul_zero R R.zero))
-          ∙ value_mul R n R.zero (λ j. R.zero) x
-          ∙ R.mul_comm R.zero (value_at R n (λ j. R.zero) x)
-          ∙ mul_zero R (value_at R n (λ j. R.zero) x)
+  total n zero f each = record {
+    coefficient = λ j. R.zero;
+    none_above = λ j h. refl;
+    gives = λ x. sym (sums_zero R n (λ j. R.mul R.zero (powers R x j)) (λ j h. zero_mul R (powers R x j)));
+  }
   total n (suc k) f each = summed n (λ x. sums R k (λ i. f i x)) (f k) (total n k f (λ i h. each i (omega arith))) (each k (omega arith))
 
   -- the product of r - x over the first n of the points r
@@ -122,7 +119,7 @@ module _ {E : Type 0} (R : Ring E) where
   product_zero zero f i h e = absurd (omega arith)
   product_zero (suc n) f i h e =
       ⊎_elim
-      (λ l. ap (λ w. R.mul w (f n)) (product_zero n f i l e) ∙ R.mul_comm R.zero (f n) ∙ mul_zero R (f n))
+      (λ l. ap (λ w. R.mul w (f n)) (product_zero n f i l e) ∙ zero_mul R (f n))
       (λ l. let same : i ≡ n = omega arith in ap (R.mul (products R n f)) (sym (ap f same) ∙ e) ∙ mul_zero R (products R n f))
       (cases_lt i n)
 
@@ -197,7 +194,7 @@ module _ {E : Type 0} (K : Field E) where
         let differ : p m ≡ p i → ⊥ = λ e. ne (sym (apart m i h k e)) in
         let (z, is, unit) = F.other (p i) (p m) differ in
         ap (R.mul (y i))
-        (product_zero R n (λ j. factor (p i) (p m) (p j)) m h (is (p m) ∙ ap (λ w. R.mul w z) (R.add_neg (p m)) ∙ R.mul_comm R.zero z ∙ mul_zero R z))
+        (product_zero R n (λ j. factor (p i) (p m) (p j)) m h (is (p m) ∙ ap (λ w. R.mul w z) (R.add_neg (p m)) ∙ zero_mul R z))
         ∙ mul_zero R (y i))
         ∙ ap (R.mul (y m))
         (product_ones R n (λ j. factor (p m) (p m) (p j))

@@ -23,7 +23,8 @@ fn factor_of<F: Field>(s: F, x: F, r: F) -> F
     }
 }
 
-// The weight of the point s among these points, for the value at x. Absent where one of the points is no code.
+// The weight of the point s among these points, for the value at x. Absent where one of the points is no code. The points are numbers and are read
+// here, as a list of elements would want memory of its own.
 pub fn weight_of<F: Field>(points: &[u32], s: F, x: F) -> Option<F>
     ensures { option_map F.Field.code result ≡ (if are_codes F.Field.arith points.now then Some (weight F.Field.arith points.now (F.Field.code s) (F.Field.code x)) else None) }
 {
@@ -50,11 +51,9 @@ pub fn write_weights<F: Field>(points: &[u32], x: F, into: &mut [F]) -> Option<u
     if !all_codes::<F>(points) || points.len() > into.len() {
         return None;
     }
-    // By an index, as nothing is proved of what is written through an adapter of `iter_mut`.
+    // By an index: `iter_mut().zip(points)` was tried, and the proof did not close, as nothing is known of what is written through it.
     for (i, point) in points.iter().enumerate() {
-        let Some(s) = F::from_code(*point) else {
-            unreachable()
-        };
+        let s = F::from_code(*point).unwrap();
         into[i] = weight_of(points, s, x).unwrap();
     }
     Some(points.len())

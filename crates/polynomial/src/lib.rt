@@ -46,6 +46,7 @@ pub fn evaluate<F: Field>(coefficients: &[F], point: F) -> F
     ensures { F.Field.code result ≡ evaluation F.Field.arith (map F.Field.code coefficients.now) (F.Field.code point) }
 {
     F::laws();
+    // By a fold of its own, as `evaluate_by` would answer an `Option` that is never absent.
     coefficients.iter().rev().fold(
         F::zero(),
         |value, coefficient| horner(value, point, *coefficient),

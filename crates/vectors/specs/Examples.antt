@@ -15,8 +15,8 @@ pub record Example : Type 0 where
   pub wanted : List ℕ
 
 -- of fields, and of keys from shares
-abbrev pub field_and_key_examples : List Example
-field_and_key_examples =
+abbrev pub examples : List Example
+examples =
     -- bytes: hex 57 times 83 is c1
     record { given = byte_arith.product 0x57 0x83 ∷ []; wanted = 0xc1 ∷ [] }
     -- bytes: the inverse of hex 53 is ca
@@ -68,9 +68,6 @@ scheme_examples =
     ∷ record { given = master_key byte_arith 1 1 (0x01 ∷ 0x02 ∷ 0x03 ∷ []) 0x02 0x03; wanted = 0x09 ∷ [] }
     ∷ []
 
-abbrev pub examples : List Example
-examples = field_and_key_examples ++ scheme_examples
-
 -- every example gives what it should
 abbrev pub ExamplesHold : Type 0
-ExamplesHold = map (λ (e : Example). e.given) examples ≡ map (λ (e : Example). e.wanted) examples
+ExamplesHold = map (λ (e : Example). e.given) (examples ++ scheme_examples) ≡ map (λ (e : Example). e.wanted) (examples ++ scheme_examples)

@@ -2,6 +2,7 @@
 use super::lines::KIOSK_2;
 use field::byte::Byte;
 use field::doubled::Doubled;
+use field::interface::Field;
 use field::residue::Residue;
 use kiosk::derive;
 use line::kiosk_line::KioskHead;
@@ -85,22 +86,28 @@ fn a_line_of_another_field(rt: HostRuntime) {
     assert!(rt; key == [7]);
 }
 
+// The lines of two kiosks with one lane derive one code for each other's numbers.
+fn one_code<F: Field>(rt: &impl Abort, lines: [(&[u8; 64], u32); 2], code: u32) {
+    for (line, other) in lines {
+        let mut key = [7u32; 1];
+        assert_eq!(rt; derive::<F>(line, KioskNumber(other), &mut key), Ok(1));
+        assert!(rt; key == [code]);
+    }
+}
+
 // The share of kiosk hex 02 over bytes, 05 04, and that of kiosk 03, 07 07, give the key 09.
 #[test]
 fn over_bytes(rt: HostRuntime) {
-    let mut key = [7u32; 1];
     let kiosk_2 = *b"k\t00000001\t00000001\t00000001\t00000001\t00000002\t0000000500000004\n";
-    assert_eq!(rt; derive::<Byte>(&kiosk_2, KioskNumber(3), &mut key), Ok(1));
-    assert!(rt; key == [9]);
     let kiosk_3 = *b"k\t00000001\t00000001\t00000001\t00000001\t00000003\t0000000700000007\n";
-    assert_eq!(rt; derive::<Byte>(&kiosk_3, KioskNumber(2), &mut key), Ok(1));
-    assert!(rt; key == [9]);
+    one_code::<Byte>(&rt, [(&kiosk_2, 3), (&kiosk_3, 2)], 9);
 }
 
 // Sixteen lanes of ten codes: the first of each is 0, and the others are the lane's index.
 fn sixteen_lanes() -> [u32; 160] {
     let mut codes = [0u32; 160];
     for (i, code) in codes.iter_mut().enumerate() {
+        // `as` is proved to lose nothing here.
         *code = if i % 10 == 0 { 0 } else { (i / 10) as u32 };
     }
     codes
@@ -136,32 +143,14 @@ fn over_doubled_fields(rt: HostRuntime) {
     let mut key = [7u32; 1];
     let kiosk = *b"k\t00000012\t00000009\t00000001\t00000001\t00010200\t0000020b0000d5a6\n";
     let other = *b"k\t00000012\t00000009\t00000001\t00000001\t000101ff\t0000030d0000d47a\n";
-    assert_eq!(rt;
-        derive::<Doubled<Residue>>(&kiosk, KioskNumber(66_047), &mut key),
-        Ok(1)
-    );
-    assert!(rt; key == [0x8c79]);
-    assert_eq!(rt;
-        derive::<Doubled<Residue>>(&other, KioskNumber(66_048), &mut key),
-        Ok(1)
-    );
-    assert!(rt; key == [0x8c79]);
+    one_code::<Doubled<Residue>>(&rt, [(&kiosk, 66_047), (&other, 66_048)], 0x8c79);
     assert_eq!(rt;
         derive::<Doubled<Residue>>(&other, KioskNumber(66_049), &mut key),
         Err(Refusal::NoSuchKiosk)
     );
     let kiosk = *b"k\t00000011\t00000009\t00000001\t00000001\t0000ffff\t000012400000e55a\n";
     let other = *b"k\t00000011\t00000009\t00000001\t00000001\t0000fffe\t0000edbf0000e759\n";
-    assert_eq!(rt;
-        derive::<Doubled<Byte>>(&kiosk, KioskNumber(0xfffe), &mut key),
-        Ok(1)
-    );
-    assert!(rt; key == [0x7d3c]);
-    assert_eq!(rt;
-        derive::<Doubled<Byte>>(&other, KioskNumber(0xffff), &mut key),
-        Ok(1)
-    );
-    assert!(rt; key == [0x7d3c]);
+    one_code::<Doubled<Byte>>(&rt, [(&kiosk, 0xfffe), (&other, 0xffff)], 0x7d3c);
     assert_eq!(rt;
         derive::<Doubled<Byte>>(&other, KioskNumber(0x10000), &mut key),
         Err(Refusal::NoSuchKiosk)

@@ -117,32 +117,28 @@ fn laws<F: Field>(rt: &impl Abort, codes: &[u32]) -> Result<(), Fail> {
     Ok(())
 }
 
-#[test]
-fn laws_of_doubled_bytes(rt: HostRuntime) -> Result<(), Fail> {
-    assert_eq!(rt; Doubled::<Byte>::order(), 65_536);
-    assert_eq!(rt; Doubled::<Byte>::mark(), 17);
-    laws::<Doubled<Byte>>(
-        &rt,
-        &[
-            0, 1, 2, 255, 256, 257, 0x1234, 0x8080, 65_280, 65_534, 65_535,
-        ],
-    )?;
-    assert!(rt; Doubled::<Byte>::from_code(65_536).is_none());
-    assert!(rt; Doubled::<Byte>::from_code(4_294_967_295).is_none());
+// The order and the mark, the laws on codes, and that neither the order nor the largest number is a code.
+fn lawful<F: Field>(rt: &impl Abort, order: u32, mark: u32, codes: &[u32]) -> Result<(), Fail> {
+    assert_eq!(rt; F::order(), u64::from(order));
+    assert_eq!(rt; F::mark(), mark);
+    laws::<F>(rt, codes)?;
+    assert!(rt; F::from_code(order).is_none());
+    assert!(rt; F::from_code(4_294_967_295).is_none());
     Ok(())
 }
 
 #[test]
+fn laws_of_doubled_bytes(rt: HostRuntime) -> Result<(), Fail> {
+    let codes = [
+        0, 1, 2, 255, 256, 257, 0x1234, 0x8080, 65_280, 65_534, 65_535,
+    ];
+    lawful::<Doubled<Byte>>(&rt, 65_536, 17, &codes)
+}
+
+#[test]
 fn laws_of_doubled_residues(rt: HostRuntime) -> Result<(), Fail> {
-    assert_eq!(rt; Doubled::<Residue>::order(), 66_049);
-    assert_eq!(rt; Doubled::<Residue>::mark(), 18);
-    laws::<Doubled<Residue>>(
-        &rt,
-        &[
-            0, 1, 2, 256, 257, 258, 12_345, 32_768, 65_792, 66_047, 66_048,
-        ],
-    )?;
-    assert!(rt; Doubled::<Residue>::from_code(66_049).is_none());
-    assert!(rt; Doubled::<Residue>::from_code(4_294_967_295).is_none());
-    Ok(())
+    let codes = [
+        0, 1, 2, 256, 257, 258, 12_345, 32_768, 65_792, 66_047, 66_048,
+    ];
+    lawful::<Doubled<Residue>>(&rt, 66_049, 18, &codes)
 }

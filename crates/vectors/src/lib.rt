@@ -2,7 +2,7 @@
 #![tactic(auto)]
 
 ghost use Rattle.std.specs.Prelude.{◌≡◌, length};
-ghost use Rattle.vectors.specs.Examples.{examples, ExamplesHold};
+ghost use Rattle.vectors.specs.Examples.{examples, scheme_examples, ExamplesHold};
 
 #[cfg(test)]
 mod derivation;
@@ -15,15 +15,21 @@ mod refusals;
 #[cfg(test)]
 mod scheme;
 
-// How many of the examples are of fields and of keys from shares, and how many of shares, seats, restoring and keys from masters.
-const OF_FIELDS_AND_KEYS: usize = 8;
+// Numbers of examples: of fields and of keys from shares, and of shares, seats, restoring and keys from masters.
+#[derive(Clone, Copy, PartialEq, Eq, Debug)]
+pub struct Counts {
+    pub of_fields_and_keys: usize,
+    pub of_the_scheme: usize,
+}
 
-const OF_THE_SCHEME: usize = 14;
-
-// The number of examples in the table, every one of which holds.
-pub fn worked_examples() -> usize
+// How many examples there are; every one holds.
+pub fn worked_examples() -> Counts
     ensures hold { ExamplesHold }
-    ensures count { result ≡ length examples }
+    ensures of_fields_and_keys { result.of_fields_and_keys ≡ length examples }
+    ensures of_the_scheme { result.of_the_scheme ≡ length scheme_examples }
 {
-    OF_FIELDS_AND_KEYS + OF_THE_SCHEME
+    Counts {
+        of_fields_and_keys: 8,
+        of_the_scheme: 14,
+    }
 }

@@ -3,7 +3,7 @@ use field::byte::Byte;
 use field::doubled::Doubled;
 use field::interface::Field;
 use field::residue::Residue;
-use kiosk::numbers;
+use kiosk::field_numbers;
 use line::kiosk_line::{KioskHead, KioskLine};
 use line::number::KioskNumber;
 use line::refusal::{Cause, LineFault, Refusal};
@@ -25,7 +25,7 @@ fn kiosk_2() -> KioskHead {
 }
 
 fn read_over<F: Field>(text: &[u8]) -> Result<KioskHead, LineFault> {
-    let line = KioskLine::read(1, numbers::<F>(), text)?;
+    let line = KioskLine::read(1, field_numbers::<F>(), text)?;
     Ok(line.head)
 }
 
@@ -65,7 +65,7 @@ fn leaves_what_stands_behind_it(rt: HostRuntime) {
 #[test]
 fn reads_back(rt: HostRuntime) -> Result<(), Fail> {
     assert_eq!(rt; read(&KIOSK_2), Ok(kiosk_2()));
-    let line = KioskLine::read(1, numbers::<Residue>(), &KIOSK_2)?;
+    let line = KioskLine::read(1, field_numbers::<Residue>(), &KIOSK_2)?;
     assert_eq!(rt; line.codes.place, 47);
     assert_eq!(rt; line.codes.get(0), Some(19));
     assert_eq!(rt; line.codes.get(1), Some(29));
@@ -195,7 +195,7 @@ fn of_full_size(rt: HostRuntime) -> Result<(), Fail> {
     };
     let mut text = [0u8; 1328];
     assert_eq!(rt; head.write(&[255u32; 160], &mut text), Ok(1328));
-    let line = KioskLine::read(1, numbers::<Byte>(), &text)?;
+    let line = KioskLine::read(1, field_numbers::<Byte>(), &text)?;
     assert_eq!(rt; line.head, head);
     assert_eq!(rt; line.codes.get(159), Some(255));
     assert_eq!(rt; line.codes.get(160), None);

@@ -13,9 +13,39 @@ use std::test::Fail;
 // A draw over residues with t = 1, m = 1 and k = 2.
 const DRAW: [u32; 6] = [5, 7, 11, 20, 30, 40];
 
-// One code of a share where t = 1 and m = 1.
-fn small_share<F: Field>(table: &[u32], j: u32, kiosk: u32) -> Option<u32> {
-    share_code(table, 1, 0, j, F::from_code(kiosk)?)
+// The degree t, the number of codes in a master, and the number k of seats that restore it.
+#[derive(Clone, Copy)]
+struct Sizes {
+    degree: u32,
+    master: usize,
+    threshold: u32,
+}
+
+// t = 1, m = 1 and k = 2.
+const SMALL: Sizes = Sizes {
+    degree: 1,
+    master: 3,
+    threshold: 2,
+};
+
+// The largest: t = 9, m = 16 and k = 7.
+const LARGEST: Sizes = Sizes {
+    degree: 9,
+    master: 880,
+    threshold: 7,
+};
+
+impl Sizes {
+    // One code of a share.
+    fn share<F: Field>(&self, table: &[u32], lane: u32, j: u32, kiosk: u32) -> Option<u32> {
+        share_code(table, self.degree, lane, j, F::from_code(kiosk)?)
+    }
+
+    // One code of a seat.
+    fn seat<F: Field>(&self, table: &[u32], place: usize, seat: u32) -> Option<u32> {
+        let seat = F::from_code(seat)?;
+        seat_code(table, self.master, self.threshold, place, seat)
+    }
 }
 
 #[test]
@@ -23,13 +53,13 @@ fn shares(rt: HostRuntime) {
     assert_eq!(rt; lane_size(1), 3);
     assert_eq!(rt; lane_size(9), 55);
     for (kiosk, first, second) in [(2, 19, 29), (3, 26, 40)] {
-        assert_eq!(rt; small_share::<Residue>(&DRAW, 0, kiosk), Some(first));
-        assert_eq!(rt; small_share::<Residue>(&DRAW, 1, kiosk), Some(second));
+        assert_eq!(rt; SMALL.share::<Residue>(&DRAW, 0, 0, kiosk), Some(first));
+        assert_eq!(rt; SMALL.share::<Residue>(&DRAW, 0, 1, kiosk), Some(second));
     }
     let master = [0x01u32, 0x02, 0x03];
     for (kiosk, first, second) in [(2, 0x05, 0x04), (3, 0x07, 0x07)] {
-        assert_eq!(rt; small_share::<Byte>(&master, 0, kiosk), Some(first));
-        assert_eq!(rt; small_share::<Byte>(&master, 1, kiosk), Some(second));
+        assert_eq!(rt; SMALL.share::<Byte>(&master, 0, 0, kiosk), Some(first));
+        assert_eq!(rt; SMALL.share::<Byte>(&master, 0, 1, kiosk), Some(second));
     }
 }
 
@@ -39,29 +69,29 @@ fn what_one_kiosk_and_one_seat_cannot_tell(rt: HostRuntime) {
     let other = [147u32, 193, 175, 135, 101, 133];
     for j in 0..2 {
         assert_eq!(rt;
-            small_share::<Residue>(&other, j, 2),
-            small_share::<Residue>(&DRAW, j, 2)
+            SMALL.share::<Residue>(&other, 0, j, 2),
+            SMALL.share::<Residue>(&DRAW, 0, j, 2)
         );
     }
     for place in 0..3 {
         assert_eq!(rt;
-            small_seat::<Residue>(&other, place, 1),
-            small_seat::<Residue>(&DRAW, place, 1)
+            SMALL.seat::<Residue>(&other, place, 1),
+            SMALL.seat::<Residue>(&DRAW, place, 1)
         );
     }
     assert_ne!(rt;
-        small_share::<Residue>(&other, 0, 3),
-        small_share::<Residue>(&DRAW, 0, 3)
+        SMALL.share::<Residue>(&other, 0, 0, 3),
+        SMALL.share::<Residue>(&DRAW, 0, 0, 3)
     );
 }
 
 // Absent: a column beyond the degree, a lane beyond the table, a number that is no code.
 #[test]
 fn shares_that_are_absent(rt: HostRuntime) {
-    assert_eq!(rt; small_share::<Residue>(&DRAW, 2, 2), None);
-    assert_eq!(rt; small_share::<Residue>(&DRAW[0..2], 0, 2), None);
-    assert_eq!(rt; small_share::<Residue>(&[5, 7, 257], 1, 2), None);
-    assert_eq!(rt; small_share::<Residue>(&[5, 7, 257], 0, 2), Some(19));
+    assert_eq!(rt; SMALL.share::<Residue>(&DRAW, 0, 2, 2), None);
+    assert_eq!(rt; SMALL.share::<Residue>(&DRAW[0..2], 0, 0, 2), None);
+    assert_eq!(rt; SMALL.share::<Residue>(&[5, 7, 257], 0, 1, 2), None);
+    assert_eq!(rt; SMALL.share::<Residue>(&[5, 7, 257], 0, 0, 2), Some(19));
     let kiosk = Residue::one();
     assert_eq!(rt; share_code(&DRAW, 1, 1, 0, kiosk), Some(50));
     assert_eq!(rt; share_code(&DRAW, 1, 2, 0, kiosk), None);
@@ -71,16 +101,11 @@ fn shares_that_are_absent(rt: HostRuntime) {
     );
 }
 
-// One code of a seat where the master has three codes and two seats restore it.
-fn small_seat<F: Field>(table: &[u32], place: usize, seat: u32) -> Option<u32> {
-    seat_code(table, 3, 2, place, F::from_code(seat)?)
-}
-
 #[test]
 fn seats(rt: HostRuntime) {
     for (seat, codes) in [(1, [25, 37, 51]), (2, [45, 67, 91]), (3, [65, 97, 131])] {
         for (place, code) in codes.iter().enumerate() {
-            assert_eq!(rt; small_seat::<Residue>(&DRAW, place, seat), Some(*code));
+            assert_eq!(rt; SMALL.seat::<Residue>(&DRAW, place, seat), Some(*code));
         }
     }
 }
@@ -88,11 +113,11 @@ fn seats(rt: HostRuntime) {
 // Absent: a place beyond the master, a block beyond the table, a number that is no code.
 #[test]
 fn seats_that_are_absent(rt: HostRuntime) {
-    assert_eq!(rt; small_seat::<Residue>(&DRAW, 3, 1), None);
-    assert_eq!(rt; small_seat::<Residue>(&DRAW[0..5], 0, 1), None);
-    assert_eq!(rt; small_seat::<Residue>(&[5, 7, 11, 20, 257, 40], 1, 1), None);
+    assert_eq!(rt; SMALL.seat::<Residue>(&DRAW, 3, 1), None);
+    assert_eq!(rt; SMALL.seat::<Residue>(&DRAW[0..5], 0, 1), None);
+    assert_eq!(rt; SMALL.seat::<Residue>(&[5, 7, 11, 20, 257, 40], 1, 1), None);
     assert_eq!(rt;
-        small_seat::<Residue>(&[5, 7, 11, 20, 257, 40], 2, 1),
+        SMALL.seat::<Residue>(&[5, 7, 11, 20, 257, 40], 2, 1),
         Some(51)
     );
     let seat = Residue::one();
@@ -106,12 +131,7 @@ fn two_seats_restore(rt: HostRuntime) {
         write_weights(&[1, 3], Residue::zero(), &mut weights),
         Some(2)
     );
-    let found = [
-        weights[0].to_code(),
-        weights[1].to_code(),
-        weights[2].to_code(),
-    ];
-    assert!(rt; found == [130, 128, 0]);
+    assert!(rt; weights.map(Residue::to_code) == [130, 128, 0]);
     for (first, third, code) in [(25, 65, 5), (37, 97, 7), (51, 131, 11)] {
         assert_eq!(rt; interpolate(&weights[0..2], &[first, third]), Some(code));
     }
@@ -145,14 +165,10 @@ fn interpolation_without_points(rt: HostRuntime) {
 fn largest_draw(order: u32) -> [u32; 6160] {
     let mut draw = [0u32; 6160];
     for (i, code) in draw.iter_mut().enumerate() {
+        // `as` is proved to lose nothing here.
         *code = (i as u32 * 40_503 + 12_345) % order.max(1);
     }
     draw
-}
-
-// One code of a share of the largest size.
-fn large_share<F: Field>(draw: &[u32], lane: u32, j: u32, kiosk: u32) -> Option<u32> {
-    share_code(draw, 9, lane, j, F::from_code(kiosk)?)
 }
 
 // A code of the key of two kiosks, from the share of one. The share is put into the memory that is lent.
@@ -164,7 +180,7 @@ fn large_key<F: Field>(
     share: &mut [F],
 ) -> Option<u32> {
     for (j, code) in (0..).zip(share.iter_mut()) {
-        *code = F::from_code(large_share::<F>(draw, lane, j, own)?)?;
+        *code = F::from_code(LARGEST.share::<F>(draw, lane, j, own)?)?;
     }
     Some(evaluate(share, F::from_code(other)?).to_code())
 }
@@ -185,16 +201,11 @@ fn agree<F: Field>(
     Ok(())
 }
 
-// One code of a seat of the largest size.
-fn large_seat<F: Field>(draw: &[u32], place: usize, seat: u32) -> Option<u32> {
-    seat_code(draw, 880, 7, place, F::from_code(seat)?)
-}
-
 // What the polynomial through the seats' codes at a place has where the weights are for.
 fn through<F: Field>(draw: &[u32], place: usize, seats: &[u32; 7], weights: &[F]) -> Option<u32> {
     let mut values = [0u32; 7];
     for (value, seat) in values.iter_mut().zip(seats) {
-        *value = large_seat::<F>(draw, place, *seat)?;
+        *value = LARGEST.seat::<F>(draw, place, *seat)?;
     }
     interpolate(weights, &values)
 }
@@ -212,10 +223,24 @@ fn restore<F: Field>(
     assert_eq!(rt; write_weights(seats, further, agreeing), Some(7));
     for (place, master_code) in draw[..880].iter().enumerate() {
         assert_eq!(rt; through(draw, place, seats, master), Some(*master_code));
-        let code = large_seat::<F>(draw, place, 5).ok_or("no code")?;
+        let code = LARGEST.seat::<F>(draw, place, 5).ok_or("no code")?;
         assert_eq!(rt; through(draw, place, seats, agreeing), Some(code));
     }
     Ok(())
+}
+
+// Two kiosks agree in every lane, and seven seats restore every code. The memory is lent, as arrays of a type parameter are not proved.
+fn agree_and_restore<F: Field>(
+    rt: &impl Abort,
+    draw: &[u32; 6160],
+    kiosks: (u32, u32),
+    share: &mut [F],
+    master: &mut [F],
+    agreeing: &mut [F],
+) -> Result<(), Fail> {
+    let (own, other) = kiosks;
+    agree(rt, draw, own, other, share)?;
+    restore(rt, draw, &[9, 1, 8, 2, 7, 3, 6], master, agreeing)
 }
 
 // What a draw of the largest size gives, over one of the doubled fields.
@@ -242,14 +267,13 @@ fn largest_sizes<F: Field>(
     let draw = largest_draw(wanted.order);
     let (own, other) = wanted.kiosks;
     for (lane, j, code) in wanted.shares {
-        assert_eq!(rt; large_share::<F>(&draw, lane, j, own), Some(code));
+        assert_eq!(rt; LARGEST.share::<F>(&draw, lane, j, own), Some(code));
     }
     for (lane, code) in wanted.keys {
         assert_eq!(rt; large_key::<F>(&draw, lane, own, other, share), Some(code));
     }
-    assert_eq!(rt; large_seat::<F>(&draw, 879, 9), Some(wanted.seat));
-    agree::<F>(rt, &draw, own, 1, share)?;
-    restore(rt, &draw, &[9, 1, 8, 2, 7, 3, 6], master, agreeing)?;
+    assert_eq!(rt; LARGEST.seat::<F>(&draw, 879, 9), Some(wanted.seat));
+    agree_and_restore(rt, &draw, (own, 1), share, master, agreeing)?;
     restore(rt, &draw, &[3, 4, 1, 7, 9, 8, 2], master, agreeing)
 }
 
@@ -293,22 +317,24 @@ fn largest_sizes_over_doubled_residues(rt: HostRuntime) -> Result<(), Fail> {
 
 #[test]
 fn largest_sizes_over_bytes_and_residues(rt: HostRuntime) -> Result<(), Fail> {
+    let (kiosks, zero) = ((255, 254), Byte::zero());
     let draw = largest_draw(256);
-    agree(&rt, &draw, 255, 254, &mut [Byte::zero(); 10])?;
-    restore(
+    agree_and_restore(
         &rt,
         &draw,
-        &[9, 1, 8, 2, 7, 3, 6],
-        &mut [Byte::zero(); 7],
-        &mut [Byte::zero(); 7],
+        kiosks,
+        &mut [zero; 10],
+        &mut [zero; 7],
+        &mut [zero; 7],
     )?;
+    let (kiosks, zero) = ((256, 255), Residue::zero());
     let draw = largest_draw(257);
-    agree(&rt, &draw, 256, 255, &mut [Residue::zero(); 10])?;
-    restore(
+    agree_and_restore(
         &rt,
         &draw,
-        &[9, 1, 8, 2, 7, 3, 6],
-        &mut [Residue::zero(); 7],
-        &mut [Residue::zero(); 7],
+        kiosks,
+        &mut [zero; 10],
+        &mut [zero; 7],
+        &mut [zero; 7],
     )
 }

@@ -83,7 +83,7 @@ impl Field for Byte {
         self.times(other)
     }
 
-    // The power is computed of zero too, which alone has none.
+    // Zero alone has no inverse; its power is computed all the same.
     fn inverse(self) -> Option<Byte> {
         let inverse = power(self, 254);
         (self.value != 0).then_some(inverse)

@@ -17,7 +17,7 @@ fn lower_order<F: Doubling>() -> u32
 {
     F::laws();
     let _ = F::coefficients();
-    F::order() as u32
+    u32::try_from(F::order()).unwrap()
 }
 
 impl<F: Doubling> Doubled<F> {

@@ -14,6 +14,7 @@ const MARK: u32 = 2;
 fn residue(number: u32) -> Residue
     ensures { result.value ≡ number % 257 }
 {
+    // By `as`: `try_from` would branch on the number.
     Residue {
         value: (number % ORDER) as u16,
     }
@@ -64,7 +65,7 @@ impl Field for Residue {
         self.times(other)
     }
 
-    // The power is computed of zero too, which alone has none.
+    // Zero alone has no inverse; its power is computed all the same.
     fn inverse(self) -> Option<Residue> {
         let inverse = power(self, 255);
         (self.value != 0).then_some(inverse)

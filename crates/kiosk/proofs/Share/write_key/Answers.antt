@@ -1,10 +1,10 @@
 use Rattle.std.proofs.Common.{◌≡◌, ◌+◌, ◌++◌, length, take, drop, sym, ap, ◌∙◌, append-nil, arith}
 use Rattle.std.proofs.lemmas.List.{length-take, drop_all}
+use Rattle.std.proofs.lemmas.Nat.{row_fits}
 use Rattle.polynomial.specs.PairKey.{pair_key}
 use Rattle.polynomial.proofs.Buffers.{written_more, written_all}
 use Rattle.polynomial.proofs.Evaluation.{pair_key_lane, length_pair_key}
 use Rattle.line.specs.Steps.{codes_in}
-use Rattle.kiosk.proofs.Keys.{lane_ends}
 use Rattle.kiosk.proofs.Share.write_key.Goals as goal
 
 pub loop-lane-preserved : goal.loop-lane-preserved
@@ -18,7 +18,7 @@ loop-lane-preserved g c =
     let count = length_pair_key A head.degree head.lanes codes v in
     let room : length (take head.lanes c.args.key.now) ≡ head.lanes = simp length-take (omega (arith, c.requires)) in
     let inside = c.loop-lane-test.true in
-    let ends = lane_ends lane head.lanes (head.degree + 1) (omega arith) in
+    let ends = row_fits lane (head.degree + 1) head.lanes (head.degree + 1) (omega arith) (omega arith) in
     written_more (pair_key A head.degree head.lanes codes v) c.loop-lane.code-items (take head.lanes c.args.key.now) lane c.to_code.result 0 c.loop-lane.invariant
     (c.to_code.ensures ∙ c.key_code.ensures ∙ sym (pair_key_lane A head.degree head.lanes codes v lane (omega arith) (omega (arith, ends, share.count))))
     (omega arith)

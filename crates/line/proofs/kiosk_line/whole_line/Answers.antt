@@ -2,7 +2,7 @@
 use Rattle.std.proofs.Common.{◌≡◌, ◌+◌, ◌-◌, ◌*◌, ◌≤◌, sym, ap, ◌∙◌, subst, rules, arith}
 use Rattle.line.specs.declared.refusal.Cause.TheVariants.{NoLineFeed}
 use Rattle.line.specs.KioskLine.{share_size, kiosk_fault}
-use Rattle.line.proofs.Checks.{no_fault, was_read, the_fault}
+use Rattle.line.proofs.Checks.{no_fault, was_read, answered}
 use Rattle.line.proofs.KioskExact.{size_most}
 use Rattle.line.proofs.Standing.{byte_within}
 use Rattle.line.proofs.kiosk_line.whole_line.Goals as goal
@@ -33,29 +33,29 @@ slice_bounds-result-end c =
 
 pub returns-in_err-head : goal.returns-in_err-head
 unfolding kiosk_fault
-returns-in_err-head c = search (rules, no_fault, was_read, the_fault)
+returns-in_err-head c = search (rules, answered)
 
 pub returns-in_err-byte : goal.returns-in_err-byte
 unfolding kiosk_fault
-returns-in_err-byte c = search (rules, no_fault, was_read, the_fault)
+returns-in_err-byte c = search (rules, answered)
 
 pub returns-in_err-codes : goal.returns-in_err-codes
 unfolding kiosk_fault
-returns-in_err-codes c = search (rules, no_fault, was_read, the_fault)
+returns-in_err-codes c = search (rules, answered)
 
 pub returns-in_err-byte-2 : goal.returns-in_err-byte-2
 unfolding kiosk_fault
-returns-in_err-byte-2 c = search (rules, no_fault, was_read, the_fault)
+returns-in_err-byte-2 c = search (rules, answered)
 
 pub returns-in_err-end : goal.returns-in_err-end
 unfolding kiosk_fault
 returns-in_err-end c =
     let next : 47 + 8 * c.share_size-size.result + 1 ≡ 48 + 8 * c.share_size-size.result = omega arith in
-    search (rules, no_fault, was_read, the_fault)
+    search (rules, answered)
 
 pub returns : goal.returns
 unfolding kiosk_fault
 returns c =
     let next : 47 + 8 * c.share_size-size.result + 1 ≡ 48 + 8 * c.share_size-size.result = omega arith in
     let long : 47 + 8 * c.share_size-size.result - 47 ≡ 8 * c.share_size-size.result = omega arith in
-    search (rules, no_fault, was_read)
+    search (rules, answered)

@@ -1,9 +1,9 @@
 use Rattle.std.proofs.Common.{◌≡◌, ℕ, ◌*◌, ◌≤◌, min, max, List, get_or, take, drop, sym, ◌∙◌, rules, tests, arith}
-use Rattle.std.proofs.lemmas.List.{get_or-take, get_or-drop}
 use Rattle.polynomial.specs.Share.{column}
 use Rattle.polynomial.specs.Table.{lane_size, place, coefficient}
 use Rattle.polynomial.proofs.Coefficients.{length_column, get_or_column, share_code_value}
 use Rattle.polynomial.proofs.Places.{place_in_lane}
+use Rattle.polynomial.proofs.Reading.{part_at}
 use Rattle.polynomial.proofs.share.share_code.Goals as goal
 
 -- what stands at the place of a(i,j)
@@ -11,8 +11,7 @@ lane_code : (t : ℕ) (table : List ℕ) (lane i j : ℕ) → i ≤ t → j ≤ 
     get_or (take (lane_size t) (drop (lane * lane_size t) table)) (place t (min i j) (max i j)) 0 ≡ get_or (column t table lane j) i 0
 unfolding coefficient
 lane_code t table lane i j i_most j_most =
-    get_or-take (lane_size t) (drop (lane * lane_size t) table) (place t (min i j) (max i j)) 0 (place_in_lane t (min i j) (max i j) (omega arith) (omega arith))
-    ∙ get_or-drop (lane * lane_size t) table (place t (min i j) (max i j)) 0
+    part_at table (lane * lane_size t) (lane_size t) (place t (min i j) (max i j)) (place_in_lane t (min i j) (max i j) (omega arith) (omega arith))
     ∙ sym (get_or_column t table lane i j i_most)
 
 pub returns : goal.returns

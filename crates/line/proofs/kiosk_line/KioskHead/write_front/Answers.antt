@@ -1,11 +1,12 @@
 -- The bytes before the codes are written one field after another.
-use Rattle.std.proofs.Common.{◌++◌, drop, ap, ◌∙◌, arith}
-use Rattle.std.proofs.lemmas.List.{length-set}
+use Rattle.std.proofs.Common.{arith}
+use Rattle.std.proofs.lemmas.List.{append_assoc, length-set}
+use Rattle.line.specs.KioskLine.{kiosk_front}
 use Rattle.line.proofs.Written.{front_none, front_byte, front_field}
-use Rattle.line.proofs.KioskLaws.{front_is}
 use Rattle.line.proofs.kiosk_line.KioskHead.write_front.Goals as goal
 
 pub returns : goal.returns
+unfolding kiosk_front
 returns c =
     let head = c.args.self.now in
     let was = c.args.buffer.now in
@@ -16,4 +17,4 @@ returns c =
     let lanes = front_field head.lanes degree c.write_field-4.ensures.after in
     let number = front_field head.number.0 lanes c.write_field-5.ensures.after in
     let tab = front_byte 9 number (omega (arith, length-set was 0 107)) in
-    record { mark_fits = c.write_field.ensures.fits; after = tab.holds ∙ ap (λ bs. bs ++ drop 47 was) (front_is head) }
+    record { mark_fits = c.write_field.ensures.fits; after = simp append_assoc (simp append_assoc at tab.holds) }

@@ -3,17 +3,17 @@ use Rattle.std.proofs.Common.{rules, arith}
 use Rattle.std.proofs.lemmas.Grind.{common_steps}
 use Rattle.std.proofs.lemmas.Bool.Decides.{nat_tests}
 use Rattle.line.specs.Steps.{bounds_fault, value_fault}
-use Rattle.line.proofs.Checks.{no_fault, was_read, the_fault}
+use Rattle.line.proofs.Checks.{answered}
 use Rattle.line.proofs.steps.LineText.value.Goals as goal
 
 pub returns-in_err-number : goal.returns-in_err-number
 unfolding value_fault
-returns-in_err-number c = search (rules, no_fault, was_read, the_fault)
+returns-in_err-number c = search (rules, answered)
 
-pub returns-then-wide-bounds : goal.returns-then-wide-bounds
+pub returns-then-contains : goal.returns-then-contains
 unfolding value_fault bounds_fault
-returns-then-wide-bounds c = search (rules, no_fault, was_read)
+returns-then-contains c = search (rules, answered)
 
-pub returns-else-bounds-wide : goal.returns-else-bounds-wide
+pub returns-else-contains : goal.returns-else-contains
 unfolding value_fault bounds_fault
-returns-else-bounds-wide c = grind (arith, common_steps, nat_tests, no_fault, was_read)
+returns-else-contains c = grind (arith, common_steps, nat_tests, answered)
