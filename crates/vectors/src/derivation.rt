@@ -53,7 +53,7 @@ fn takes_the_largest_number_and_no_larger(rt: HostRuntime) -> Result<(), Fail> {
     Ok(())
 }
 
-// The checks in their order: the first that refuses decides.
+// The checks in their order: the first that refuses decides. Refusals are asked for their numbers, which are among what is tested.
 #[test]
 fn refuses_in_order(rt: HostRuntime) -> Result<(), Fail> {
     assert_eq!(rt; refused(&rt, 0, 0)?.number(), 6);
