@@ -2,6 +2,7 @@ pub mod Sums
 pub mod Evaluation
 pub mod Coefficients
 pub mod Reading
+pub mod Rules
 pub mod Weights
 pub mod Buffers
 pub mod Places

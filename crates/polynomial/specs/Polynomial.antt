@@ -1,7 +1,6 @@
 -- Sums, products, and the value of a polynomial, by the codes of a field's elements.
-use Rattle.std.specs.Prelude.{◌≡◌, ℕ, zero, suc, ◌<◌, cond, Bool, List, length, Some, None, Option, nat_lt, slice_index}
+use Rattle.std.specs.Prelude.{◌≡◌, ℕ, zero, suc, ◌<◌, Bool, List, map, length, Some, None, Option, nat_lt, slice_get, slice_index}
 use Rattle.std.specs.List.{list_all, AllByRecursion}
-use Rattle.std.specs.Option.{option_map}
 use Rattle.field.specs.Arith.{Arith, power}
 
 -- the field's sum of f 0, .., f (n - 1)
@@ -25,10 +24,17 @@ Codes A numbers = AllByRecursion (λ c. c < A.order) numbers
 abbrev pub are_codes : Arith → List ℕ → Bool
 are_codes A numbers = list_all (λ c. nat_lt c A.order) numbers
 
--- What is answered at an index below the count is the element that has the number there for its code, or none where that number is no code.
-pub record Answers (A : Arith) {E : Type 0} (code : E → ℕ) (answers : ℕ → Option E → Type 0) (count : ℕ) (numbers : List ℕ) : Type 0 where
-  pub long : length numbers ≡ count
-  pub each : (i : ℕ) (o : Option E) → i < count → answers i o → option_map code o ≡ cond (nat_lt (slice_index numbers i) A.order) (Some (slice_index numbers i)) None
+-- A polynomial whose coefficients a rule answers, that of each power below the count, and an element that is its value at x.
+pub record EvaluatesBy (A : Arith) {E : Type 0} (code : E → ℕ) (answers : ℕ → Option E → Type 0) (count x : ℕ) (value : E) : Type 0 where
+  pub coefficients : List E
+  pub long : length coefficients ≡ count
+  pub answered : (power : ℕ) → power < count → answers power (slice_get coefficients power)
+  pub is_value : code value ≡ evaluation A (map code coefficients) x
+
+-- What comes of evaluating by a rule for the coefficients: the value, or nothing, where the rule answers nothing for one of them.
+unfoldable pub Evaluates : (A : Arith) {E : Type 0} (code : E → ℕ) (answers : ℕ → Option E → Type 0) (count x : ℕ) → Option E → Type 0
+Evaluates A code answers count x None = (power : ℕ) × (power < count) × answers power None
+Evaluates A code answers count x (Some value) = EvaluatesBy A code answers count x value
 
 -- no number stands in the list twice
 abbrev pub Different : List ℕ → Type 0

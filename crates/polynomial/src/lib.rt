@@ -1,10 +1,9 @@
 // Polynomials over any field, and what the scheme makes of them.
 #![tactic(auto)]
 
-ghost use Rattle.std.specs.Prelude.{◌≡◌, ℕ, ◌<◌, List, ◌∷◌, map, if◌then◌else◌, Some, None};
+ghost use Rattle.std.specs.Prelude.{◌≡◌, ℕ, ◌<◌, List, ◌∷◌, map};
 ghost use Rattle.std.specs.List.{AllByRecursion};
-ghost use Rattle.std.specs.Option.{option_map};
-ghost use Rattle.polynomial.specs.Polynomial.{evaluation, are_codes, Answers};
+ghost use Rattle.polynomial.specs.Polynomial.{evaluation, Evaluates};
 
 use field::interface::Field;
 
@@ -23,20 +22,21 @@ pub fn horner<F: Field>(value: F, point: F, coefficient: F) -> F
     value.product(point).sum(coefficient)
 }
 
-// The value at a point of the polynomial with `count` coefficients, of which `coefficient` answers that of each power. Absent where it answers none for
-// one of them.
+// The value at a point of the polynomial with `count` coefficients, of which `coefficient` answers that of each power. Absent only where it answers
+// none for one of them.
 pub fn evaluate_by<F: Field, C: Fn(usize) -> Option<F>>(
     count: usize,
     coefficient: C,
     point: F,
 ) -> Option<F>
     requires { (power : ℕ) → power < count → C.pre coefficient power }
-    ensures { (numbers : List ℕ) → Answers F.Field.arith F.Field.code (C.post coefficient) count numbers → option_map F.Field.code result ≡ (if are_codes F.Field.arith numbers then Some (evaluation F.Field.arith numbers (F.Field.code point)) else None) }
+    ensures { Evaluates F.Field.arith F.Field.code (C.post coefficient) count (F.Field.code point) result }
 {
     F::laws();
     let mut value = F::zero();
     for power in (0..count).rev() {
-        value = horner(value, point, coefficient(power)?);
+        let next = coefficient(power)?;
+        value = horner(value, point, next);
     }
     Some(value)
 }

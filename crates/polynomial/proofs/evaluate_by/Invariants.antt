@@ -1,10 +1,9 @@
-use Rattle.std.proofs.Common.{◌≡◌, ℕ, List, drop}
-use Rattle.polynomial.specs.Polynomial.{evaluation, Codes, Answers}
+use Rattle.std.proofs.Common.{◌+◌, ◌-◌}
+use Rattle.polynomial.specs.Polynomial.{EvaluatesBy}
 use Rattle.polynomial.proofs.evaluate_by.Given as goal
 
--- the numbers from this power on are codes, and the value so far is that of the polynomial that has them for its coefficients
+-- the value so far is that of the polynomial that has the coefficients from this power on
 abbrev pub invariant-loop-power : goal.invariant-loop-power
 invariant-loop-power g l =
     let field = g.F.Field in
-    (numbers : List ℕ) → Answers field.arith field.code (goal.C-post g l.coefficient) l.count numbers →
-    (field.code l.value ≡ evaluation field.arith (drop l.power numbers) (field.code l.point)) × Codes field.arith (drop l.power numbers)
+    EvaluatesBy field.arith field.code (λ i. goal.C-post g l.coefficient (i + l.power)) (l.count - l.power) (field.code l.point) l.value

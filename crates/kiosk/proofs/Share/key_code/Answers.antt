@@ -5,6 +5,7 @@ use Rattle.std.proofs.lemmas.Nat.{row_fits}
 use Rattle.polynomial.specs.Polynomial.{evaluation}
 use Rattle.line.specs.Steps.{codes_in}
 use Rattle.polynomial.proofs.Reading.{length_part, part_at}
+use Rattle.polynomial.proofs.Rules.{by_numbers}
 use Rattle.kiosk.proofs.Keys.{part_below, part_codes}
 use Rattle.kiosk.proofs.Share.key_code.Given.{Over}
 use Rattle.kiosk.proofs.Share.key_code.Goals as goal
@@ -22,7 +23,8 @@ evaluated g c =
     let codes = codes_in share.line.codes.text.now in
     let ends = row_fits c.args.lane width share.line.head.lanes width c.requires (omega arith) in
     let within : start + width ≤ length codes = omega (arith, ends, share.count) in
-    let e = c.evaluate_by.ensures _ (record {
+    let by = by_numbers A g.F.Field.code _ width (take width (drop start codes)) (g.F.Field.code c.args.point) c.evaluate_by.result c.evaluate_by.ensures in
+    let e = by (record {
       long = length_part codes start width within;
       each = λ i o h post.
           let at = part_at codes start width i h in

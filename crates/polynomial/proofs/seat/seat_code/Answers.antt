@@ -1,6 +1,7 @@
 use Rattle.std.proofs.Common.{rules, tests}
 use Rattle.polynomial.specs.Seat.{stack}
 use Rattle.polynomial.proofs.Coefficients.{length_stack, get_or_stack, seat_code_value}
+use Rattle.polynomial.proofs.Rules.{by_numbers}
 use Rattle.polynomial.proofs.seat.seat_code.Goals as goal
 
 pub returns : goal.returns
@@ -10,9 +11,8 @@ returns g c =
     let table = c.args.table.now in
     let place = c.args.place in
     let value = seat_code_value g.F.Field.arith size blocks table (g.F.Field.code c.args.seat) place in
-    let answered =
-    c.evaluate_by.ensures (stack size blocks table place)
-    (record {
+    let by = by_numbers g.F.Field.arith g.F.Field.code _ blocks (stack size blocks table place) (g.F.Field.code c.args.seat) c.evaluate_by.result c.evaluate_by.ensures in
+    let answered = by (record {
       long = length_stack size blocks table place;
       each = λ i o h post.
           let here = get_or_stack size blocks table place i h in

@@ -1,9 +1,10 @@
-use Rattle.std.proofs.Common.{◌≡◌, ℕ, ◌*◌, ◌≤◌, min, max, List, get_or, take, drop, sym, ◌∙◌, rules, tests, arith}
+use Rattle.std.proofs.Common.{◌≡◌, ℕ, ◌+◌, ◌*◌, ◌≤◌, min, max, List, get_or, take, drop, sym, ◌∙◌, rules, tests, arith}
 use Rattle.polynomial.specs.Share.{column}
 use Rattle.polynomial.specs.Table.{lane_size, place, coefficient}
 use Rattle.polynomial.proofs.Coefficients.{length_column, get_or_column, share_code_value}
 use Rattle.polynomial.proofs.Places.{place_in_lane}
 use Rattle.polynomial.proofs.Reading.{part_at}
+use Rattle.polynomial.proofs.Rules.{by_numbers}
 use Rattle.polynomial.proofs.share.share_code.Goals as goal
 
 -- what stands at the place of a(i,j)
@@ -21,9 +22,8 @@ returns g c =
     let lane = c.args.lane in
     let j = c.args.j in
     let value = share_code_value g.F.Field.arith t table (g.F.Field.code c.args.kiosk) lane j in
-    let answered =
-    c.evaluate_by.ensures (column t table lane j)
-    (record {
+    let by = by_numbers g.F.Field.arith g.F.Field.code _ (t + 1) (column t table lane j) (g.F.Field.code c.args.kiosk) c.evaluate_by.result c.evaluate_by.ensures in
+    let answered = by (record {
       long = length_column t table lane j;
       each = λ i o h post.
           let here = lane_code t table lane i j (omega arith) (omega arith) in
