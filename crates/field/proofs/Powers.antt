@@ -1,17 +1,15 @@
 -- Powers under a product that is associative and has the neutral number 1.
-use Rattle.std.proofs.Common.{◌≡◌, ℕ, zero, suc, ◌+◌, ◌/◌, ◌%◌, ◌^◌, ◌<◌, Bool, true, not, cond, eqb, sym, refl, ap, ◌∙◌, ⊎_elim, suc-add, zero-add, arith}
+use Rattle.std.proofs.Common.{◌≡◌, ℕ, zero, suc, ◌+◌, ◌/◌, ◌%◌, ◌^◌, ◌<◌, Bool, true, not, cond, eqb, sym, refl, ap, ◌∙◌, ⊎_elim, arith}
 use Rattle.std.proofs.lemmas.Bool.{eqb-true, eq-eqb, ne_eqb, cases_eq, not_from_false, agree_below, agree_below_at}
 use Rattle.field.specs.Arith.{power}
 use Rattle.field.specs.Product.{Monoid}
 
--- the power n from the power h, where h is n / 2
-abbrev from_half : (ℕ → ℕ → ℕ) → ℕ → ℕ → ℕ → ℕ
-from_half product x n h = cond (eqb (n % 2) 0) (product h h) (product (product h h) x)
-
--- the power n of x, for n below 2^k, by few products
+-- the power n of x, for n below 2^k, by few products: from the power n / 2 of the square
 unfoldable pub by_halves : (ℕ → ℕ → ℕ) → ℕ → ℕ → ℕ → ℕ
 by_halves product zero x n = 1
-by_halves product (suc k) x n = from_half product x n (by_halves product k x (n / 2))
+by_halves product (suc k) x n =
+    let half = by_halves product k (product x x) (n / 2) in
+    cond (eqb (n % 2) 1) (product x half) half
 
 module _ {product : ℕ → ℕ → ℕ} {order : ℕ} (M : Monoid product order) (x : ℕ) (x_below : x < order) where
   pub power_below : (n : ℕ) → power product x n < order
@@ -19,37 +17,36 @@ module _ {product : ℕ → ℕ → ℕ} {order : ℕ} (M : Monoid product order
   power_below zero = M.one_below
   power_below (suc n) = M.closed x (power product x n) x_below (power_below n)
 
-  pub power_add : (m n : ℕ) → power product x (m + n) ≡ product (power product x m) (power product x n)
-  unfolding power
-  power_add zero n = ap (power product x) (zero-add n) ∙ sym (M.one_left (power product x n) (power_below n))
-  power_add (suc m) n =
-      ap (power product x) (suc-add m n)
-      ∙ ap (product x) (power_add m n)
-      ∙ sym (M.assoc x (power product x m) (power product x n) x_below (power_below m) (power_below n))
-
   pub power_zero : power product x 0 ≡ 1
   unfolding power
   power_zero = refl
 
-  pub power_even : (n : ℕ) → n % 2 ≡ 0 → product (power product x (n / 2)) (power product x (n / 2)) ≡ power product x n
-  power_even n even = sym (power_add (n / 2) (n / 2)) ∙ ap (power product x) (omega arith)
-
-  pub power_odd : (n : ℕ) → (n % 2 ≡ 0 → ⊥) → product (product (power product x (n / 2)) (power product x (n / 2))) x ≡ power product x n
+  pub power_of_square : (n : ℕ) → power product (product x x) n ≡ power product x (n + n)
   unfolding power
-  power_odd n odd =
-      ap (λ p. product p x) (sym (power_add (n / 2) (n / 2)))
-      ∙ ap (product (power product x (n / 2 + n / 2))) (sym (M.one_right x x_below))
-      ∙ sym (power_add (n / 2 + n / 2) 1)
-      ∙ ap (power product x) (omega arith)
+  power_of_square zero = refl
+  power_of_square (suc n) =
+      let twice : suc (suc (n + n)) ≡ suc n + suc n = omega arith in
+      ap (product (product x x)) (power_of_square n)
+      ∙ M.assoc x x (power product x (n + n)) x_below x_below (power_below (n + n))
+      ∙ ap (power product x) twice
 
-  from_half_is : (n : ℕ) → from_half product x n (power product x (n / 2)) ≡ power product x n
-  from_half_is n =
-      ⊎_elim (λ even. rw (eq-eqb (n % 2) 0 even) (power_even n even)) (λ odd. rw (ne_eqb (n % 2) 0 odd) (power_odd n odd)) (cases_eq (n % 2) 0)
+  -- the power n from the power n / 2 of the square
+  pub square_even : (n : ℕ) → (n % 2 ≡ 1 → ⊥) → power product (product x x) (n / 2) ≡ power product x n
+  square_even n even = power_of_square (n / 2) ∙ ap (power product x) (omega (arith, even))
 
-  pub by_halves_is : (k n : ℕ) → n < 2 ^ k → by_halves product k x n ≡ power product x n
-  unfolding by_halves
-  by_halves_is zero n h = sym (ap (power product x) (omega arith) ∙ power_zero)
-  by_halves_is (suc k) n h = ap (from_half product x n) (by_halves_is k (n / 2) (omega (arith, h))) ∙ from_half_is n
+  pub square_odd : (n : ℕ) → n % 2 ≡ 1 → product x (power product (product x x) (n / 2)) ≡ power product x n
+  unfolding power
+  square_odd n odd =
+      let whole : suc (n / 2 + n / 2) ≡ n = omega (arith, odd) in
+      ap (product x) (power_of_square (n / 2)) ∙ ap (power product x) whole
+
+pub by_halves_is :
+    {product : ℕ → ℕ → ℕ} {order : ℕ} (M : Monoid product order) (x : ℕ) → x < order → (k n : ℕ) → n < 2 ^ k → by_halves product k x n ≡ power product x n
+unfolding by_halves
+by_halves_is M x x_below zero n h = sym (ap (power _ x) (omega arith) ∙ power_zero M x x_below)
+by_halves_is {product} M x x_below (suc k) n h =
+    ap (λ half. cond (eqb (n % 2) 1) (product x half) half) (by_halves_is M (product x x) (M.closed x x x_below x_below) k (n / 2) (omega (arith, h)))
+    ∙ ⊎_elim (λ odd. rw (eq-eqb (n % 2) 1 odd) (square_odd M x x_below n odd)) (λ even. rw (ne_eqb (n % 2) 1 even) (square_even M x x_below n even)) (cases_eq (n % 2) 1)
 
 -- the test that a map answers an inverse of every number below the order but zero, and none of zero
 abbrev pub inverts : (ℕ → ℕ → ℕ) → ℕ → (ℕ → ℕ) → Bool

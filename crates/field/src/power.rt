@@ -24,19 +24,21 @@ pub(crate) trait Multiply: Copy {
         ensures { number result ≡ product (number self) (number other) };
 }
 
-// The power of x, by halving the exponent, which is no secret.
+// The power of x, by halving the exponent, which is no secret: a factor for each of its bits that is 1, the lowest first. That bit stands
+// before the loop, so that no square is worked out that nothing needs.
 pub(crate) fn power<M: Multiply>(x: M, exponent: u32) -> M
     ensures { M.number result ≡ power M.product (M.number x) exponent }
 {
     M::laws();
-    if exponent == 0 {
-        return M::unit();
+    let mut power = if exponent % 2 == 1 { x } else { M::unit() };
+    let mut square = x;
+    let mut rest = exponent / 2;
+    while rest > 0 {
+        square = square.times(square);
+        if rest % 2 == 1 {
+            power = power.times(square);
+        }
+        rest /= 2;
     }
-    let half = power(x, exponent / 2);
-    let square = half.times(half);
-    if exponent % 2 == 0 {
-        square
-    } else {
-        square.times(x)
-    }
+    power
 }

@@ -1,6 +1,4 @@
 // Bytes are ready for doubling.
-ghost use Rattle.field.specs.declared.byte.doubling.TheConstants.{E};
-
 use super::Byte;
 use crate::doubling::Doubling;
 
@@ -10,7 +8,7 @@ const E: u8 = 0x20;
 impl Doubling for Byte {
     ghost d = { 1 };
 
-    ghost e = { E };
+    ghost e = { 0x20 };
 
     fn coefficients() -> (Byte, Byte) {
         (Byte { value: 1 }, Byte { value: E })

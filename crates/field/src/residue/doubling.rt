@@ -1,6 +1,4 @@
 // Residues modulo 257 are ready for doubling.
-ghost use Rattle.field.specs.declared.residue.doubling.TheConstants.{E};
-
 use super::Residue;
 use crate::doubling::Doubling;
 
@@ -10,7 +8,7 @@ const E: u16 = 3;
 impl Doubling for Residue {
     ghost d = { 0 };
 
-    ghost e = { E };
+    ghost e = { 3 };
 
     fn coefficients() -> (Residue, Residue) {
         (Residue { value: 0 }, Residue { value: E })
