@@ -1,5 +1,5 @@
 -- Powers under a product that is associative and has the neutral number 1.
-use Rattle.std.proofs.Common.{◌≡◌, ℕ, zero, suc, ◌+◌, ◌/◌, ◌%◌, ◌^◌, ◌<◌, Bool, true, not, cond, eqb, sym, refl, ap, ◌∙◌, ⊎_elim, arith}
+use Rattle.std.proofs.Common.{◌≡◌, ℕ, zero, suc, ◌+◌, ◌/◌, ◌%◌, ◌^◌, ◌<◌, Bool, true, not, cond, eqb, sym, refl, ap, ◌∙◌, ⊎_elim, suc-add, zero-add, arith}
 use Rattle.std.proofs.lemmas.Bool.{eqb-true, eq-eqb, ne_eqb, cases_eq, not_from_false, agree_below, agree_below_at}
 use Rattle.field.specs.Arith.{power}
 use Rattle.field.specs.Product.{Monoid}
@@ -17,6 +17,14 @@ module _ {product : ℕ → ℕ → ℕ} {order : ℕ} (M : Monoid product order
   power_below zero = M.one_below
   power_below (suc n) = M.closed x (power product x n) x_below (power_below n)
 
+  pub power_add : (m n : ℕ) → power product x (m + n) ≡ product (power product x m) (power product x n)
+  unfolding power
+  power_add zero n = ap (power product x) (zero-add n) ∙ sym (M.one_left (power product x n) (power_below n))
+  power_add (suc m) n =
+      ap (power product x) (suc-add m n)
+      ∙ ap (product x) (power_add m n)
+      ∙ sym (M.assoc x (power product x m) (power product x n) x_below (power_below m) (power_below n))
+
   pub power_zero : power product x 0 ≡ 1
   unfolding power
   power_zero = refl
@@ -25,9 +33,11 @@ module _ {product : ℕ → ℕ → ℕ} {order : ℕ} (M : Monoid product order
   unfolding power
   power_of_square zero = refl
   power_of_square (suc n) =
-      let twice : suc (suc (n + n)) ≡ suc n + suc n = omega arith in
+      let two : power product x 2 ≡ product x x = ap (product x) (M.one_right x x_below) in
+      let twice : 2 + (n + n) ≡ suc n + suc n = omega arith in
       ap (product (product x x)) (power_of_square n)
-      ∙ M.assoc x x (power product x (n + n)) x_below x_below (power_below (n + n))
+      ∙ ap (λ square. product square (power product x (n + n))) (sym two)
+      ∙ sym (power_add 2 (n + n))
       ∙ ap (power product x) twice
 
   -- the power n from the power n / 2 of the square
