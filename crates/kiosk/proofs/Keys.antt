@@ -1,11 +1,7 @@
 -- The first places of the buffer after an accepted derivation hold the key.
-use Rattle.std.proofs.Common.{◌≡◌, ℕ, ◌+◌, ◌<◌, ◌≤◌, true, List, ◌++◌, length, get_or, take, drop, Some, None, Option, sym, ap, ◌∙◌, arith}
-use Rattle.std.specs.List.{EachIndex}
-use Rattle.std.proofs.ByRecursion.{All-from_get_or}
+use Rattle.std.proofs.Common.{◌≡◌, ℕ, List, ◌++◌, length, take, drop, Some, None, Option, sym, ap, ◌∙◌}
 use Rattle.std.proofs.lemmas.List.{take_at}
 use Rattle.field.specs.Arith.{Arith}
-use Rattle.polynomial.specs.Polynomial.{are_codes}
-use Rattle.polynomial.proofs.Reading.{length_part, part_at, codes_decided}
 use Rattle.polynomial.proofs.Evaluation.{length_pair_key}
 use Rattle.line.specs.declared.refusal.Refusal.{Refusal}
 use Rattle.line.specs.KioskLine.{kiosk_head, kiosk_codes}
@@ -19,13 +15,3 @@ key_part A text other buffer after count none count_is after_is =
     let rest = drop head.lanes buffer in
     ap (take count) (after_is ∙ ap (λ (o : Option Refusal). elim o [ None ↦ key ++ rest | Some r ↦ buffer ]) none)
     ∙ take_at key rest count (length_pair_key A head.degree head.lanes (codes_in (kiosk_codes text)) other ∙ sym count_is)
-
--- a part of codes, each of which is below the order
-module _ (A : Arith) (codes : List ℕ) (below : EachIndex codes (λ i. get_or codes i 0 < A.order)) (start width : ℕ) (within : start + width ≤ length codes) where
-  pub part_below : (i : ℕ) → i < width → get_or (take width (drop start codes)) i 0 < A.order
-  part_below i h = rw (part_at codes start width i h) (below (start + i) (omega arith))
-
-  pub part_codes : are_codes A (take width (drop start codes)) ≡ true
-  part_codes =
-      (codes_decided A (take width (drop start codes))).1
-      (All-from_get_or (λ n. n < A.order) (take width (drop start codes)) 0 (λ i h. part_below i (omega (arith, length_part codes start width within))))

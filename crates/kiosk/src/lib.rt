@@ -14,7 +14,7 @@ use line::codes::CodeText;
 use line::kiosk_line::{FieldNumbers, KioskLine};
 use line::number::KioskNumber;
 use line::refusal::Refusal;
-use polynomial::evaluate_by;
+use polynomial::horner;
 use std::marker::PhantomData;
 
 // The numbers by which a line's reader knows this field.
@@ -64,8 +64,12 @@ impl<F: Field> Share<'_, F> {
         requires { lane < self.now.line.head.lanes }
         ensures { F.Field.code result ≡ evaluation F.Field.arith (take (self.now.line.head.degree + 1) (drop (lane * (self.now.line.head.degree + 1)) (codes_in self.now.line.codes.text.now))) (F.Field.code point) }
     {
+        F::laws();
         let width = self.line.head.degree as usize + 1;
-        evaluate_by(width, |j| Some(self.element(lane * width + j)), point).unwrap()
+        (0..width).rev().fold(
+            F::zero(),
+            |value, j| horner(value, point, self.element(lane * width + j)),
+        )
     }
 
     // Writes the key that is shared with the kiosk of this number into the first places of a buffer.

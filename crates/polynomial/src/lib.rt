@@ -24,7 +24,7 @@ pub fn horner<F: Field>(value: F, point: F, coefficient: F) -> F
 
 // The value at a point of the polynomial with `count` coefficients, of which `coefficient` answers that of each power. Absent only where it answers
 // none for one of them.
-pub fn evaluate_by<F: Field, C: Fn(usize) -> Option<F>>(
+pub(crate) fn evaluate_by<F: Field, C: Fn(usize) -> Option<F>>(
     count: usize,
     coefficient: C,
     point: F,
