@@ -53,7 +53,7 @@ size_most line mark order text e =
     let each : number_at text 20 + 1 ≤ 10 = omega (arith, head.degree.range.below) in
     mul-le-mul rows each
 
-exact : (line mark order : ℕ) (text : List ℕ) → kiosk_fault line mark order text ≡ None → Exact mark order text (kiosk_head text) (take (8 * share_size (kiosk_head text)) (drop 47 text))
+pub exact : (line mark order : ℕ) (text : List ℕ) → kiosk_fault line mark order text ≡ None → Exact mark order text (kiosk_head text) (take (8 * share_size (kiosk_head text)) (drop 47 text))
 unfolding kiosk_line
 exact line mark order text e =
     let each = line_each line mark order text e in

@@ -125,7 +125,8 @@ impl LineText<'_> {
     {
         let number = self.number(place)?;
         let wide = u64::from(number);
-        if (bounds.least..bounds.below).contains(&wide) {
+        // By plain comparisons: `contains` would ask of a code, which is secret, whether it is 0.
+        if bounds.least <= wide && wide < bounds.below {
             Ok(number)
         } else {
             Err(self.fault(place, bounds.cause))

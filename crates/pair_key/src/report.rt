@@ -68,10 +68,9 @@ impl fmt::Display for Code {
     ghost output = { λ code. Some (eight code.0) };
 
     fn fmt<W: fmt::Write>(&self, f: &mut fmt::Formatter<W>) -> fmt::Result {
-        for digit in hex(self.0) {
-            f.write_char(char::from(digit))?;
-        }
-        Ok(())
+        let digits = hex(self.0);
+        // At once and without a check that they are UTF-8, which would ask of each digit whether its byte is below 128.
+        f.write_str(unsafe { str::from_utf8_unchecked(&digits) })
     }
 }
 
@@ -116,6 +115,11 @@ fn append_key<F: Field>(
     Ok(())
 }
 
+// The bytes of a line up to its colon, if its three numbers have ten digits each, and those of a code and the blank before it.
+const LONGEST_START: usize = 57;
+
+const LONGEST_CODE: usize = 9;
+
 // The lines of the keys that the kiosk of this line shares with the others.
 pub fn report<F: Field>(
     alloc: Global,
@@ -126,6 +130,9 @@ pub fn report<F: Field>(
 {
     let head = head::<F>(text)?;
     let mut lines = String::new(alloc);
+    // Room for all lines at once, with none of it copied as they grow. Where there is no such room, they grow as they come.
+    let longest = LONGEST_START + LONGEST_CODE * head.lanes as usize + 1;
+    let _ = lines.reserve(others.len().saturating_mul(longest));
     for other in others {
         append_key::<F>(&mut lines, text, head, *other)?;
     }

@@ -10,10 +10,10 @@ pub returns-in_err-number : goal.returns-in_err-number
 unfolding value_fault
 returns-in_err-number c = search (rules, answered)
 
-pub returns-then-contains : goal.returns-then-contains
+pub returns-then-wide-bounds : goal.returns-then-wide-bounds
 unfolding value_fault bounds_fault
-returns-then-contains c = search (rules, answered)
+returns-then-wide-bounds c = search (rules, answered)
 
-pub returns-else-contains : goal.returns-else-contains
+pub returns-else-bounds-wide : goal.returns-else-bounds-wide
 unfolding value_fault bounds_fault
-returns-else-contains c = grind (arith, common_steps, nat_tests, answered)
+returns-else-bounds-wide c = grind (arith, common_steps, nat_tests, answered)
