@@ -66,6 +66,7 @@ impl<F: Field> Share<'_, F> {
     {
         F::laws();
         let width = self.line.head.degree as usize + 1;
+        // By a fold of its own: a loop that took a rule for the codes would ask that the rule may be called, and no public function asks anything.
         (0..width).rev().fold(
             F::zero(),
             |value, j| horner(value, point, self.element(lane * width + j)),
