@@ -66,7 +66,7 @@ impl<F: Field> Share<'_, F> {
     {
         F::laws();
         let width = self.line.head.degree as usize + 1;
-        // By a fold of its own: a loop that took a rule for the codes would ask that the rule may be called, and no public function asks anything.
+        // By a fold of its own: a rule would have to answer any power, and a code is read here only where it is known to stand.
         (0..width).rev().fold(
             F::zero(),
             |value, j| horner(value, point, self.element(lane * width + j)),

@@ -6,8 +6,10 @@ ghost use Rattle.std.specs.List.{AllByRecursion};
 ghost use Rattle.polynomial.specs.Polynomial.{evaluation, Evaluates};
 
 use field::interface::Field;
+use rule::Rule;
 
 pub mod interpolation;
+pub mod rule;
 pub mod seat;
 pub mod share;
 pub mod theorems;
@@ -22,9 +24,9 @@ pub fn horner<F: Field>(value: F, point: F, coefficient: F) -> F
     value.product(point).sum(coefficient)
 }
 
-// The value at a point of the polynomial with `count` coefficients, of which `coefficient` answers that of each power. Absent only where it answers
-// none for one of them.
-pub(crate) fn evaluate_by<F: Field, C: Fn(usize) -> Option<F>>(
+// The value at a point, by Horner's rule, of the polynomial with `count` coefficients, of which `coefficient` answers that of each power. Absent only
+// where it answers none for one of them.
+pub(crate) fn horner_loop<F: Field, C: Fn(usize) -> Option<F>>(
     count: usize,
     coefficient: C,
     point: F,
@@ -39,6 +41,13 @@ pub(crate) fn evaluate_by<F: Field, C: Fn(usize) -> Option<F>>(
         value = horner(value, point, next);
     }
     Some(value)
+}
+
+// The value at a point of the polynomial with `count` coefficients, which a rule answers. Absent only where it answers none for one of them.
+pub fn evaluate_by<F: Field, R: Rule<F>>(count: usize, rule: &R, point: F) -> Option<F>
+    ensures { Evaluates F.Field.arith F.Field.code (R.answers rule.now) count (F.Field.code point) result }
+{
+    horner_loop(count, |power| rule.coefficient(power), point)
 }
 
 // The value at a point of the polynomial with these coefficients, that of the power 0 first.

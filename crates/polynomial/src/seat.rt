@@ -2,7 +2,7 @@
 ghost use Rattle.std.specs.Prelude.{◌≡◌};
 ghost use Rattle.polynomial.specs.Seat.{seat_answer};
 
-use crate::evaluate_by;
+use crate::horner_loop;
 use field::interface::Field;
 
 // The code of a seat at a place of the master, which has `size` codes, where `threshold` seats restore it. Absent where the place is beyond the
@@ -20,7 +20,7 @@ pub fn seat_code<F: Field>(
     if place >= size || blocks.checked_mul(size)? > table.len() {
         return None;
     }
-    evaluate_by(
+    horner_loop(
         blocks,
         |block| F::from_code(table[block * size + place]),
         seat,

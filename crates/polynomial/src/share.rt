@@ -3,7 +3,7 @@ ghost use Rattle.std.specs.Prelude.{◌≡◌, suc, ◌*◌, ◌<◌, ◌≤◌,
 ghost use Rattle.polynomial.specs.Share.{share_answer};
 ghost use Rattle.polynomial.specs.Table.{lane_size, place};
 
-use crate::evaluate_by;
+use crate::horner_loop;
 use field::interface::Field;
 
 // The number of codes in one lane of a table of this degree.
@@ -55,7 +55,7 @@ pub fn share_code<F: Field>(table: &[u32], degree: u32, lane: u32, j: u32, kiosk
         return None;
     }
     let lane = Lane::of(table, degree, lane)?;
-    evaluate_by(
+    horner_loop(
         degree as usize + 1,
         |i| F::from_code(lane.coefficient(i, j as usize)),
         kiosk,

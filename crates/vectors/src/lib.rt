@@ -7,6 +7,8 @@ ghost use Rattle.vectors.specs.Examples.{examples, scheme_examples, ExamplesHold
 #[cfg(test)]
 mod derivation;
 #[cfg(test)]
+mod evaluation;
+#[cfg(test)]
 mod fields;
 #[cfg(test)]
 mod lines;

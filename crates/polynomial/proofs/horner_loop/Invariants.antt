@@ -1,6 +1,6 @@
 use Rattle.std.proofs.Common.{◌+◌, ◌-◌}
 use Rattle.polynomial.specs.Polynomial.{EvaluatesBy}
-use Rattle.polynomial.proofs.evaluate_by.Given as goal
+use Rattle.polynomial.proofs.horner_loop.Given as goal
 
 -- the value so far is that of the polynomial that has the coefficients from this power on
 abbrev pub invariant-loop-power : goal.invariant-loop-power
