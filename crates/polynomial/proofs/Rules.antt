@@ -16,16 +16,16 @@ pub answered_more : {E : Type 0} (answers : ℕ → Option E → Type 0) (power 
 answered_more answers power n c higher some first so_far zero below = subst (λ k. answers k (Some c)) (omega arith) first
 answered_more answers power n c higher some first so_far (suc i) below = subst (λ k. answers k (slice_get higher i)) (omega arith) (so_far i (omega arith))
 
--- what comes of one rule comes of another that may answer the same, and more, for the powers below the count
-pub other_rule : (A : Arith) {E : Type 0} (code : E → ℕ) (answers others : ℕ → Option E → Type 0) (count x : ℕ) (o : Option E) →
-    ((power : ℕ) (answer : Option E) → power < count → answers power answer → others power answer) → Evaluates A code answers count x o → Evaluates A code others count x o
+-- what comes of a rule comes of a weaker one too, which says less of the answers for the powers below the count
+pub weaker_rule : (A : Arith) {E : Type 0} (code : E → ℕ) {answers weaker : ℕ → Option E → Type 0} {count : ℕ} (x : ℕ) (o : Option E) →
+    ((power : ℕ) (answer : Option E) → power < count → answers power answer → weaker power answer) → Evaluates A code answers count x o → Evaluates A code weaker count x o
 unfolding Evaluates
-other_rule A code answers others count x None more (power, below, none) = (power, below, more power None below none)
-other_rule A code answers others count x (Some value) more by =
+weaker_rule A code x None less (power, below, none) = (power, below, less power None below none)
+weaker_rule A code x (Some value) less by =
     record {
       coefficients = by.coefficients;
       long = by.long;
-      answered = λ power below. more power (slice_get by.coefficients power) below (by.answered power below);
+      answered = λ power below. less power (slice_get by.coefficients power) below (by.answered power below);
       is_value = by.is_value;
     }
 

@@ -1,5 +1,6 @@
 // Evaluation by a rule for the coefficients, over every field.
-ghost use Rattle.std.specs.Prelude.{◌≡◌, Some, IfSome, slice_get};
+ghost use Rattle.std.specs.Prelude.{◌≡◌, if◌then◌else◌, Some, None, nat_lt, slice_get};
+ghost use Rattle.std.specs.Option.{option_and_then, option_map};
 
 use field::byte::Byte;
 use field::doubled::Doubled;
@@ -15,7 +16,7 @@ struct Listed<'a> {
 }
 
 impl<F: Field> Rule<F> for Listed<'_> {
-    ghost answers = { λ rule power answer. IfSome answer (λ x. slice_get rule.codes.now power ≡ Some (F.Field.code x)) };
+    ghost answers = { λ rule power answer. option_map F.Field.code answer ≡ option_and_then (λ n. if nat_lt n F.Field.arith.order then Some n else None) (slice_get rule.codes.now power) };
 
     fn coefficient(&self, power: usize) -> Option<F> {
         F::from_code(*self.codes.get(power)?)
@@ -24,7 +25,7 @@ impl<F: Field> Rule<F> for Listed<'_> {
 
 fn value<F: Field>(codes: &[u32], count: usize, point: u32) -> Option<u32> {
     let point = F::from_code(point)?;
-    evaluate_by::<F, Listed<'_>>(count, &Listed { codes }, point).map(F::to_code)
+    evaluate_by(count, &Listed { codes }, point).map(F::to_code)
 }
 
 #[test]
